@@ -1,0 +1,10 @@
+//! How a value is a word, and where each area of the table lies.
+#![tactic(auto)]
+
+mod field_word;
+mod layout;
+mod operand;
+
+pub use field_word::{FieldWord, pack, same_value};
+pub use layout::{Layout, LayoutFault};
+pub use operand::Operand;
