@@ -1,0 +1,2 @@
+pub mod FixedHeaps
+pub mod Histories
