@@ -81,18 +81,19 @@ change_of call reply = if is_change reply then call ∷ [] else []
 abbrev pub seen_before : Reply → ℕ → ℕ
 seen_before reply front = if is_change reply then front - 1 else front
 
--- The ended calls of a pass that has seen n changes. Its fronts never fall and lie in the history; of the changes
--- from front to front its own are those of its calls, a change being the last of its stretch; each reply is the
--- heap's.
+-- An ended call of a pass that has seen n changes. Its front is no earlier and lies in the history; of the changes
+-- from there to the front the pass's own are those of the call, a change being the last; the reply is the heap's.
+pub record IsNext (history : List Call) (pass n : ℕ) (e : Ended) : Type 0 where
+  pub later : n ≤ e.front
+  pub within : e.front ≤ length history
+  pub own : made_by pass (between n e.front history) ≡ change_of e.call e.reply
+  pub last : IsTrue (is_change e.reply) → slice_get history (e.front - 1) ≡ Some e.call
+  pub reply : answer (heap_at history (seen_before e.reply e.front)) e.call ≡ e.reply
+
+-- The ended calls of a pass that has seen n changes, one after another. It made no change behind the last of them.
 abbrev pub Follows : List Call → ℕ → ℕ → List Ended → Type 0
 Follows history pass n [] = made_by pass (drop n history) ≡ []
-Follows history pass n (e ∷ es) =
-    (n ≤ e.front)
-    × (e.front ≤ length history)
-    × (made_by pass (between n e.front history) ≡ change_of e.call e.reply)
-    × (IsTrue (is_change e.reply) → slice_get history (e.front - 1) ≡ Some e.call)
-    × (answer (heap_at history (seen_before e.reply e.front)) e.call ≡ e.reply)
-    × Follows history pass e.front es
+Follows history pass n (e ∷ es) = IsNext history pass n e × Follows history pass e.front es
 
 -- each pass's calls, those of pass p first
 abbrev pub AllFollow : List Call → ℕ → List (List Ended) → Type 0
