@@ -1,0 +1,4 @@
+pub mod Chains
+pub mod StepLaws
+pub mod Steps
+pub mod Turns
