@@ -1,5 +1,6 @@
 -- What a thread is in the midst of.
-use Rattle.std.specs.Prelude.{◌≡◌, ◌≢◌, ℕ, refl, ap}
+use Rattle.std.specs.Prelude.{◌≡◌, ◌≢◌, ℕ, refl}
+use Rattle.std.proofs.Common.{ap}
 use Rattle.call_steps.specs.declared.step.Step.{Step}
 use Rattle.call_steps.specs.declared.step.Step.TheVariants.{Store, Ended}
 use Rattle.gc_tool.specs.declared.doing.Doing.{Doing}

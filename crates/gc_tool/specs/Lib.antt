@@ -5,3 +5,13 @@ pub mod NewObjects
 pub mod Reads
 pub mod Writes
 pub mod Doings
+pub mod Tellings
+pub mod Threads
+pub mod Sound
+pub mod Openings
+pub mod Worlds
+pub mod Texts
+pub mod Outside
+pub mod Statuses
+pub mod Memories
+pub mod Forms

@@ -19,6 +19,7 @@ pub fn taken(pass: u32) -> u64
 
 /// The header of an object that stays where it is: state Plain in bits 0 to 2, colour Even in bits 3
 /// and 4, the number of fields in bits 5 to 10, the birth number in bits 11 to 34.
+#[tactic(auto, unfolding(crate::specs::Headers::plain_header))]
 pub fn plain_header(len: u32, birth: u32) -> u64
     requires len { len < 64 }
     requires birth { birth < 2 ^ 24 }
@@ -28,6 +29,7 @@ pub fn plain_header(len: u32, birth: u32) -> u64
 }
 
 /// The number of fields that a header word says.
+#[tactic(auto, unfolding(crate::specs::Headers::len_in))]
 pub fn len_in(header: u64) -> u32
     ensures value { result ≡ len_in_of header }
     ensures small { result < 64 }

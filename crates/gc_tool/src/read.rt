@@ -1,6 +1,7 @@
 //! A read of a field of an object that stays where it is.
 
 ghost use Rattle.std.specs.Prelude.{◌≡◌};
+ghost use Rattle.heap_words.specs.FieldWords.{field_at};
 ghost use Rattle.gc_tool.specs.declared.read.ReadMachine.TheVariants.{Header};
 
 use crate::headers::len_in;
@@ -31,6 +32,14 @@ impl ReadMachine {
     }
 }
 
+/// What a field holds; a word that says nothing counts as 0, and stands in no field.
+#[tactic(auto, unfolding(heap_words::specs::FieldWords::field_at))]
+fn held_by(word: u64) -> FieldWord
+    ensures { result ≡ field_at word }
+{
+    unpack(word).unwrap_or(FieldWord::Num(0))
+}
+
 impl Machine for ReadMachine {
     ghost use Rattle.gc_tool.specs.Reads.{asks_of, fed_of, blind_of};
 
@@ -58,10 +67,7 @@ impl Machine for ReadMachine {
                     ReadMachine::Ended(ReadEnd::NoField { len })
                 }
             }
-            ReadMachine::Field(_) => {
-                let word = unpack(found).unwrap_or(FieldWord::Num(0));
-                ReadMachine::Ended(ReadEnd::Got(word))
-            }
+            ReadMachine::Field(_) => { ReadMachine::Ended(ReadEnd::Got(held_by(found))) }
             ReadMachine::Ended(end) => ReadMachine::Ended(end),
         };
     }

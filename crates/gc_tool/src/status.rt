@@ -1,7 +1,7 @@
 //! How the program ends.
 
 ghost use Rattle.std.specs.Prelude.{◌≡◌};
-ghost use Rattle.gc_tool.specs.Statuses.{exit_of, status_words};
+ghost use Rattle.gc_tool.specs.Statuses.{exit_of, text_of};
 
 use arrayvec::ArrayString;
 use itoa::Buffer;
@@ -17,10 +17,11 @@ pub enum Status {
     TooLong,
     /// The sink failed. A prefix of the output was written.
     WriteFault,
-    /// So many steps were taken, and a thread had not ended.
+    /// So many steps were taken, and a party had not ended.
     StepsSpent { n: u64 },
+    /// Memory ran out.
     OutOfMemory,
-    /// The words or the input are of a form that this program does not have yet.
+    /// The words or the input have a form that the program does not know yet.
     NotBuilt,
 }
 
@@ -39,10 +40,51 @@ pub fn exit_status(status: &Status) -> u8
     }
 }
 
-fn plain_text(text: &str) -> ArrayString<160>
-    requires { Rattle.std.specs.Prelude.length text.now ≤ 100 }
+/// What is said on standard error, with no line end. It is empty for `Done`.
+pub fn status_text(status: &Status) -> ArrayString<160>
+    ensures { result.bytes ≡ text_of status.now }
 {
-    let mut line = ArrayString::new();
-    line.push_str(text);
-    line
+    let mut text = ArrayString::new();
+    match status {
+        Status::Done => {}
+        Status::ReadFault => text.push_str("gc_tool: reading failed"),
+        Status::TooLong => text.push_str("gc_tool: input too long"),
+        Status::WriteFault => text.push_str("gc_tool: writing failed"),
+        Status::StepsSpent { n } => {
+            let mut digits = Buffer::new();
+            text.push_str("gc_tool: ");
+            text.push_str(digits.format(*n));
+            text.push_str(" steps spent");
+        }
+        Status::OutOfMemory => text.push_str("gc_tool: out of memory"),
+        Status::NotBuilt => text.push_str("gc_tool: not built yet"),
+    }
+    text
+}
+
+#[cfg(test)]
+mod tests {
+    use super::*;
+
+    #[test]
+    fn has_an_exit_status_and_a_text(rt: HostRuntime) {
+        let cases = [
+            (Status::Done, 0, ""),
+            (Status::ReadFault, 2, "gc_tool: reading failed"),
+            (Status::TooLong, 3, "gc_tool: input too long"),
+            (Status::WriteFault, 5, "gc_tool: writing failed"),
+            (Status::StepsSpent { n: 0 }, 7, "gc_tool: 0 steps spent"),
+            (
+                Status::StepsSpent { n: u64::MAX },
+                7,
+                "gc_tool: 18446744073709551615 steps spent",
+            ),
+            (Status::OutOfMemory, 8, "gc_tool: out of memory"),
+            (Status::NotBuilt, 9, "gc_tool: not built yet"),
+        ];
+        for (status, number, text) in cases {
+            assert_eq!(rt; exit_status(&status), number);
+            assert_eq!(rt; status_text(&status).as_str(), text);
+        }
+    }
 }

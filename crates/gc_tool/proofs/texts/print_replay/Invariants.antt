@@ -1,0 +1,7 @@
+use Rattle.std.proofs.Common.{◌≡◌, take}
+use Rattle.std.specs.List.{flat_map}
+use Rattle.gc_tool.specs.Texts.{entry_text}
+use Rattle.gc_tool.proofs.texts.print_replay.Given as goal
+
+abbrev pub invariant-loop-entry : goal.invariant-loop-entry
+invariant-loop-entry l = l.out.items ≡ flat_map entry_text (take l.entry-index l.entries)
