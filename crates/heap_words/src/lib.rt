@@ -5,6 +5,6 @@ mod field_word;
 mod layout;
 mod operand;
 
-pub use field_word::{FieldWord, pack, same_value};
+pub use field_word::{FieldWord, pack, same_value, unpack};
 pub use layout::{Layout, LayoutFault};
 pub use operand::Operand;
