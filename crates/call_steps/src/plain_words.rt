@@ -50,7 +50,8 @@ impl PlainWords {
         ensures found { result ≡ found_by step self.old }
 
         // At most the word on which it steps changes.
-        ensures others { (at : ℕ) → at ≢ place_of step → slice_index self.new at ≡ slice_index self.old at }
+        ensures others { (at : ℕ) → at ≢ place_of step
+            → slice_index self.new at ≡ slice_index self.old at }
         ensures len { length self.new ≡ length self.old }
     {
         match step {
