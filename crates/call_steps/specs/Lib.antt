@@ -1,3 +1,5 @@
+pub mod Alone
+pub mod AloneLaws
 pub mod Chains
 pub mod StepLaws
 pub mod Steps

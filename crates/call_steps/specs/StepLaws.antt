@@ -1,7 +1,7 @@
 -- Laws of single steps, for crates that reason over memory as a function from addresses to words.
-use Rattle.std.specs.Prelude.{◌≡◌, ◌≢◌, ℕ, ◌<◌, ◌^◌, ◌==◌, ◌%◌, ◌+◌, ◌-◌, Bool, true, false, List, length, slice_index, slice_set, All}
+use Rattle.std.specs.Prelude.{◌≡◌, ◌≢◌, ℕ, ◌<◌, ◌^◌, ◌==◌, true, false, List, length, slice_index, slice_set}
 use prog.Atomic.{either}
-use Rattle.std.proofs.Common.{refl, sym, arith, lit<, subst, get_or-set_same, get_or-set_other, length-set}
+use Rattle.std.proofs.Common.{refl, arith, lit<, get_or-set_same, get_or-set_other, length-set}
 use Rattle.std.proofs.Math.Decide.{dec_lt}
 use Rattle.std.proofs.lemmas.List.{get_or_past}
 use Rattle.std.proofs.lemmas.List.Elements.{All-set}
@@ -58,7 +58,8 @@ length-applied (Sub at by) words = length-set words at _
 pub Put-set : (words : List ℕ) (at put : ℕ) → at < length words → Put (reading words) (reading (slice_set words at put)) at put
 Put-set words at put inside = record {
   here = get_or-set_same words at put 0 inside;
-  elsewhere = λ a other. get_or-set_other words at a put 0 other }
+  elsewhere = λ a other. get_or-set_other words at a put 0 other;
+}
 
 -- the words after a step are the words before it, with what it puts at its address
 pub applied-puts : (step : Step) (words : List ℕ) → step ≢ Ended → IsInside (length words) step → Put (reading words) (reading (applied step words)) (place_of step) (put_by step (reading words (place_of step)))

@@ -39,23 +39,30 @@ pub trait Law<R, K>: Lawful<R, K> {
     ghost rests: { (k : K) (r : R) → begins k r r };
 
     /// Lawful words have the width.
-    ghost wide: { (k : K) (ws : List ℕ) (rs : List R) → Self.lawful k ws rs → length ws ≡ width k };
+    ghost wide: { (k : K) (ws : List ℕ) (rs : List R) → Self.lawful k ws rs
+        → length ws ≡ width k };
 
     /// There is a record for each party.
-    ghost counted: { (k : K) (ws : List ℕ) (rs : List R) → Self.lawful k ws rs → length rs ≡ parties k };
+    ghost counted: { (k : K) (ws : List ℕ) (rs : List R) → Self.lawful k ws rs
+        → length rs ≡ parties k };
 
     /// A party asks for steps on words that are there.
-    ghost inside: { (k : K) (ws : List ℕ) (others : List R) (r : R) → Self.lawful k ws (r ∷ others) → IsInside (width k) (asks r) };
+    ghost inside: { (k : K) (ws : List ℕ) (others : List R) (r : R) → Self.lawful k ws (r ∷ others)
+        → IsInside (width k) (asks r) };
 
     /// The order of the records means nothing.
-    ghost regroups: { (k : K) (ws : List ℕ) (rs qs : List R) → IsPermutation rs qs → Self.lawful k ws rs → Self.lawful k ws qs };
+    ghost regroups: { (k : K) (ws : List ℕ) (rs qs : List R) → IsPermutation rs qs
+        → Self.lawful k ws rs → Self.lawful k ws qs };
 
     /// What a party does without a step keeps the law.
-    ghost starts: { (k : K) (ws : List ℕ) (others : List R) (r now : R) → Self.lawful k ws (r ∷ others) → begins k r now → Self.lawful k ws (now ∷ others) };
+    ghost starts: { (k : K) (ws : List ℕ) (others : List R) (r now : R)
+        → Self.lawful k ws (r ∷ others) → begins k r now → Self.lawful k ws (now ∷ others) };
 
-    /// A turn keeps the law: the step is done to the words, and the record is the one after its turn.
-    ghost keeps: { (k : K) (ws : List ℕ) (others : List R) (r : R) → Self.lawful k ws (r ∷ others) → asks r ≢ Ended → slice_index ws (place_of (asks r)) < 2 ^ 64
-        → Self.lawful k (applied (asks r) ws) (turned k others r (slice_index ws (place_of (asks r))) ∷ others) };
+    /// A turn keeps the law: the step is done to the words, and the record is that after its turn.
+    ghost keeps: { (k : K) (ws : List ℕ) (others : List R) (r : R) → Self.lawful k ws (r ∷ others)
+        → asks r ≢ Ended → slice_index ws (place_of (asks r)) < 2 ^ 64
+        → Self.lawful k (applied (asks r) ws)
+        (turned k others r (slice_index ws (place_of (asks r))) ∷ others) };
 }
 
 /// A machine that stands in the record of a party.
@@ -67,5 +74,6 @@ pub trait Party<R, K, P: Law<R, K>>: Machine {
     ghost asks_alike: { (r : R) (m : Self) → runs r m → P.asks r ≡ Self.asks m };
 
     /// After a turn the record's machine is the one that was fed.
-    ghost goes_alike: { (k : K) (others : List R) (r : R) (m : Self) (n : ℕ) → runs r m → runs (P.turned k others r n) (Self.fed m n) };
+    ghost goes_alike: { (k : K) (others : List R) (r : R) (m : Self) (n : ℕ) → runs r m
+        → runs (P.turned k others r n) (Self.fed m n) };
 }

@@ -45,5 +45,6 @@ pub trait CallMachine: Machine {
     ghost some_left: { (m : Self) → steps_left m ≡ 0 → Self.asks m ≡ Ended };
 
     /// Each word that it is fed lowers the bound.
-    ghost falls: { (m : Self) (n : ℕ) → Self.asks m ≢ Ended → steps_left (Self.fed m n) < steps_left m };
+    ghost falls: { (m : Self) (n : ℕ) → Self.asks m ≢ Ended
+        → steps_left (Self.fed m n) < steps_left m };
 }

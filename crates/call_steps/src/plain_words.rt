@@ -1,6 +1,6 @@
 //! Words that one thread steps on.
 
-ghost use Rattle.std.specs.Prelude.{◌≡◌, ◌≢◌, ℕ, ◌<◌, ◌^◌, length, slice_index, replicate, IfOk};
+ghost use Rattle.std.specs.Prelude.{◌≡◌, ◌≢◌, ℕ, ◌<◌, ◌^◌, length, slice_index, slice_set, replicate, IfOk};
 ghost use Rattle.call_steps.specs.Steps.{applied, found_by, place_of, IsInside, AreWords};
 
 use crate::step::Step;
@@ -50,35 +50,41 @@ impl PlainWords {
         ensures found { result ≡ found_by step self.old }
 
         // At most the word on which it steps changes.
-        ensures others { (at : ℕ) → at ≢ place_of step → slice_index self.new at ≡ slice_index self.old at }
+        ensures others { (at : ℕ) → at ≢ place_of step
+            → slice_index self.new at ≡ slice_index self.old at }
         ensures len { length self.new ≡ length self.old }
     {
         match step {
-            Step::Load { at } => self.words[at as usize],
-            Step::Store { at, put } => {
-                let found = self.words[at as usize];
-                self.words[at as usize] = put;
-                found
-            }
+            Step::Load { at } => self.word(at),
+            Step::Store { at, put } => self.replace(at, put),
             Step::Exchange { at, want, put } => {
-                let found = self.words[at as usize];
+                let found = self.word(at);
                 if found == want {
-                    self.words[at as usize] = put;
+                    self.replace(at, put);
                 }
                 found
             }
             Step::Add { at, by } => {
-                let found = self.words[at as usize];
-                self.words[at as usize] = found.wrapping_add(by);
-                found
+                let found = self.word(at);
+                self.replace(at, found.wrapping_add(by))
             }
             Step::Sub { at, by } => {
-                let found = self.words[at as usize];
-                self.words[at as usize] = found.wrapping_sub(by);
-                found
+                let found = self.word(at);
+                self.replace(at, found.wrapping_sub(by))
             }
             Step::Ended => 0,
         }
+    }
+
+    // Puts a word, and gives the one that stood there before it.
+    fn replace(&mut self, place: u32, put: u64) -> u64
+        requires { place < length self.old }
+        ensures words { self.new ≡ slice_set self.old place put }
+        ensures found { result ≡ slice_index self.old place }
+    {
+        let found = self.words[place as usize];
+        self.words[place as usize] = put;
+        found
     }
 
     /// The word at an address.

@@ -37,8 +37,24 @@ fn steps_on_two_words(rt: HostRuntime) -> Result<(), Fail> {
         (Step::Load { at: 1 }, 7, [0, 7]),
         (Step::Load { at: 0 }, 0, [0, 7]),
         (Step::Store { at: 1, put: 8 }, 7, [0, 8]),
-        (Step::Exchange { at: 1, want: 8, put: 9 }, 8, [0, 9]),
-        (Step::Exchange { at: 1, want: 8, put: 5 }, 9, [0, 9]),
+        (
+            Step::Exchange {
+                at: 1,
+                want: 8,
+                put: 9,
+            },
+            8,
+            [0, 9],
+        ),
+        (
+            Step::Exchange {
+                at: 1,
+                want: 8,
+                put: 5,
+            },
+            9,
+            [0, 9],
+        ),
         (Step::Sub { at: 0, by: 1 }, 0, [LAST, 9]),
         (Step::Add { at: 0, by: 1 }, LAST, [0, 9]),
         (Step::Add { at: 1, by: 3 }, 9, [0, 12]),
@@ -66,7 +82,11 @@ impl Machine for Counting {
 
     ghost fed = { elim [ Twice ↦ λ found. Once | Once ↦ λ found. Done | Done ↦ λ found. Done ] };
 
-    ghost blind = { elim [ Twice ↦ λ at put n is. refl | Once ↦ λ at put n is. refl | Done ↦ λ at put n is. refl ] };
+    ghost blind = { elim [
+      | Twice ↦ λ at put n is. refl
+      | Once ↦ λ at put n is. refl
+      | Done ↦ λ at put n is. refl
+    ] };
 
     fn ask(&self) -> Step {
         match self {
@@ -86,11 +106,23 @@ impl Machine for Counting {
 impl CallMachine for Counting {
     ghost steps_left = { elim [ Twice ↦ 2 | Once ↦ 1 | Done ↦ 0 ] };
 
-    ghost none_left = { elim [ Twice ↦ λ ended. Prim.cc | Once ↦ λ ended. Prim.cc | Done ↦ λ ended. refl ] };
+    ghost none_left = { elim [
+      | Twice ↦ λ ended. Prim.cc
+      | Once ↦ λ ended. Prim.cc
+      | Done ↦ λ ended. refl
+    ] };
 
-    ghost some_left = { elim [ Twice ↦ λ none. absurd (Prim.omega arith) | Once ↦ λ none. absurd (Prim.omega arith) | Done ↦ λ none. refl ] };
+    ghost some_left = { elim [
+      | Twice ↦ λ none. absurd (Prim.omega arith)
+      | Once ↦ λ none. absurd (Prim.omega arith)
+      | Done ↦ λ none. refl
+    ] };
 
-    ghost falls = { elim [ Twice ↦ λ n on. lit< tt | Once ↦ λ n on. lit< tt | Done ↦ λ n on. absurd (on refl) ] };
+    ghost falls = { elim [
+      | Twice ↦ λ n on. lit< tt
+      | Once ↦ λ n on. lit< tt
+      | Done ↦ λ n on. absurd (on refl)
+    ] };
 
     fn left(&self) -> u32 {
         match self {
@@ -117,7 +149,11 @@ impl Law<Counting, u32> for OneWord {
 
     ghost asks = { elim [ Twice ↦ Add 0 1 | Once ↦ Add 0 1 | Done ↦ Ended ] };
 
-    ghost turned = { λ k others. elim [ Twice ↦ λ found. Once | Once ↦ λ found. Done | Done ↦ λ found. Done ] };
+    ghost turned = { λ k others. elim [
+      | Twice ↦ λ found. Once
+      | Once ↦ λ found. Done
+      | Done ↦ λ found. Done
+    ] };
 
     ghost begins = { λ k before now. before ≡ now };
 
@@ -127,7 +163,11 @@ impl Law<Counting, u32> for OneWord {
 
     ghost counted = { λ k ws rs kept. kept.1 };
 
-    ghost inside = { λ k ws others. elim [ Twice ↦ λ kept. lit< tt | Once ↦ λ kept. lit< tt | Done ↦ λ kept. tt ] };
+    ghost inside = { λ k ws others. elim [
+      | Twice ↦ λ kept. lit< tt
+      | Once ↦ λ kept. lit< tt
+      | Done ↦ λ kept. tt
+    ] };
 
     ghost regroups = { λ k ws rs qs moved kept. (kept.0, length_permutation rs qs moved ∙ kept.1) };
 
@@ -150,14 +190,38 @@ fn two_machines_count(rt: HostRuntime) -> Result<(), Fail> {
     let mut words = PlainWords::zeros(rt.alloc(), 1)?;
     let mut first = Counting::Twice;
     let mut second = Counting::Twice;
-    assert_eq!(rt; take_turn::<Counting, u32, OneWord, Counting>(&mut words, &mut first), 0);
+    assert_eq!(rt;
+        take_turn::<Counting, u32, OneWord, Counting>(&mut words, &mut first),
+        0
+    );
     assert_eq!(rt; first.left(), 1);
-    assert_eq!(rt; take_turn::<Counting, u32, OneWord, Counting>(&mut words, &mut second), 1);
-    assert_eq!(rt; take_turn::<Counting, u32, OneWord, Counting>(&mut words, &mut first), 2);
-    assert_eq!(rt; take_turn::<Counting, u32, OneWord, Counting>(&mut words, &mut second), 3);
+    assert_eq!(rt;
+        take_turn::<Counting, u32, OneWord, Counting>(&mut words, &mut second),
+        1
+    );
+    assert_eq!(rt;
+        take_turn::<Counting, u32, OneWord, Counting>(&mut words, &mut first),
+        2
+    );
+    assert_eq!(rt;
+        take_turn::<Counting, u32, OneWord, Counting>(&mut words, &mut second),
+        3
+    );
     assert_eq!(rt; words.len(), 1);
     assert_eq!(rt; words.word(0), 4);
     assert!(rt; matches!(first.ask(), Step::Ended));
     assert_eq!(rt; second.left(), 0);
+    Ok(())
+}
+
+// One machine alone runs to its end.
+#[test]
+fn one_machine_ends(rt: HostRuntime) -> Result<(), Fail> {
+    let mut words = PlainWords::zeros(rt.alloc(), 1)?;
+    let mut machine = Counting::Twice;
+    run_alone(&mut words, &mut machine);
+    assert_eq!(rt; machine.left(), 0);
+    assert_eq!(rt; words.len(), 1);
+    assert_eq!(rt; words.word(0), 2);
     Ok(())
 }

@@ -21,7 +21,8 @@ pub fn take_turn<R, K, P: Law<R, K>, M: Party<R, K, P>>(
     ensures found { result ≡ slice_index words.old (place_of (M.asks machine.old)) }
     ensures words { words.new ≡ applied (M.asks machine.old) words.old }
     ensures fed { machine.new ≡ M.fed machine.old result }
-    ensures lawful { P.lawful world.0 words.new (P.turned world.0 world.1 world.2 result ∷ world.1) }
+    ensures lawful { P.lawful world.0 words.new
+        (P.turned world.0 world.1 world.2 result ∷ world.1) }
     ensures runs { M.runs (P.turned world.0 world.1 world.2 result) machine.new }
 {
     let found = words.apply(machine.ask());
