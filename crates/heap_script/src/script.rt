@@ -7,11 +7,22 @@ use std::marker::Model;
 #[derive(Clone, Copy, Debug, PartialEq, Eq)]
 pub enum Command {
     /// Makes an object of `len` fields, at most 30, and puts it in `dst`.
-    New { dst: u32, len: u32 },
+    New {
+        dst: u32,
+        len: u32,
+    },
     /// Reads a field, at most 29, of the object in `obj` into `dst`.
-    Get { dst: u32, obj: u32, field: u32 },
+    Get {
+        dst: u32,
+        obj: u32,
+        field: u32,
+    },
     /// Writes a field, at most 29, of the object in `obj`.
-    Put { obj: u32, field: u32, what: Operand },
+    Put {
+        obj: u32,
+        field: u32,
+        what: Operand,
+    },
     /// Writes `value` where the field holds `expected`, and else puts what it holds in `dst`.
     Cas {
         dst: u32,
@@ -21,9 +32,14 @@ pub enum Command {
         value: Operand,
     },
     /// Copies `src` into `dst`.
-    Copy { dst: u32, src: u32 },
+    Copy {
+        dst: u32,
+        src: u32,
+    },
     /// Sets `dst` to 0.
-    Drop { dst: u32 },
+    Drop {
+        dst: u32,
+    },
     /// Does nothing but the poll that comes before each command.
     Poll,
 }
