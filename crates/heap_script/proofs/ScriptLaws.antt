@@ -64,13 +64,15 @@ is_within-IsLayout l cycles e =
     let d = and_parts _ (leb 1 l.pool) f.0 in
     let c = and_parts _ (leb l.quota 256) d.0 in
     let b = and_parts _ (leb 1 l.quota) c.0 in
-    let a = and_parts (leb 1 l.passes) (leb l.passes 8) b.0 in
-    (record {
-      passes = (leb-true _ _ a.0, leb-true _ _ a.1);
-      quota = (leb-true _ _ b.1, leb-true _ _ c.1);
-      pool = (leb-true _ _ d.1, leb-true _ _ f.1);
-      wide = leb-true _ _ g.1;
-    }, leb-true _ _ h.1)
+    let a = and_parts (leb 1 l.passes) (leb l.passes 8) b.0 in (
+      record {
+        passes = (leb-true _ _ a.0, leb-true _ _ a.1);
+        quota = (leb-true _ _ b.1, leb-true _ _ c.1);
+        pool = (leb-true _ _ d.1, leb-true _ _ f.1);
+        wide = leb-true _ _ g.1;
+      },
+      leb-true _ _ h.1,
+    )
 
 pub IsLayout-is_within : (l : Sizes) (cycles : ℕ) → IsLayout l → cycles ≤ 64 → is_within l cycles ≡ true
 IsLayout-is_within l cycles h few = within_yes l cycles h few

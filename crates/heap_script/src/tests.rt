@@ -1,9 +1,14 @@
+ghost use Rattle.std.specs.Prelude.{IfOk};
+ghost use Rattle.heap_script.specs.Scripts.{Fits};
+
 use crate::{FaultKind, ReadScriptFault, Script, print_script, read_script};
 use std::alloc::Global;
 use std::process::Abort;
 use std::test::Fail;
 
-fn read(rt: &impl Abort, alloc: Global, text: &[u8]) -> Result<Script, ReadScriptFault> {
+fn read(rt: &impl Abort, alloc: Global, text: &[u8]) -> Result<Script, ReadScriptFault>
+    ensures { IfOk result Fits }
+{
     assert!(rt; text.len() < 2_000_000);
     read_script(alloc, text)
 }
