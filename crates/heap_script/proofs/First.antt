@@ -15,7 +15,7 @@ use Rattle.heap_script.specs.Scripts.{Reading}
 use Rattle.heap_script.specs.Grammar.{◌>>=◌, Heading, Fault, heading, heap_line, command, command_line, commands_from, each_from, script_from, script_of}
 use Rattle.heap_script.specs.declared.fault.ReadScriptFault.{ReadScriptFault}
 use Rattle.heap_script.specs.declared.fault.ReadScriptFault.TheVariants as faults
-use Rattle.heap_script.specs.Gives.{Reads, IfScriptFault}
+use Rattle.heap_script.specs.Gives.{IsAnswer, IfScriptFault}
 use Rattle.heap_script.specs.FirstFault.{said, fault_of, fault_behind, fault_at, NoFaultBefore, IsFirstFault, IsFault, Says, IsScript}
 
 at_seam : (before after : List (List ℕ)) (line : List ℕ) → get_or (before ++ line ∷ after) (length before) [] ≡ line
@@ -244,11 +244,11 @@ pub script_decides : (bytes : List ℕ) → MatchResult (script_of bytes) (IsScr
 unfolding script_of
 script_decides bytes = told bytes (script_from (1 + count_by (λ b. eqb b 10) bytes) 1 (lines bytes)) (script_first (1 + count_by (λ b. eqb b 10) bytes) (lines bytes) 1 [] refl (λ j lt. absurd (omega arith)) refl)
 
-pub is_found : (bytes : List ℕ) (r : Result Reading ReadScriptFault) → Reads (λ s. s) r (script_of bytes) → IfOk r (λ s. IsScript bytes s)
+pub is_found : (bytes : List ℕ) (r : Result Reading ReadScriptFault) → IsAnswer r (script_of bytes) → IfOk r (λ s. IsScript bytes s)
 is_found bytes (Ok s) h = let P : Result Reading Fault → Type 0 = λ x. MatchResult x (IsScript bytes) (IsFault bytes) in subst P h (script_decides bytes)
 is_found bytes (Err e) h = tt
 
-pub is_fault : (bytes : List ℕ) (r : Result Reading ReadScriptFault) → Reads (λ s. s) r (script_of bytes) → IfErr r (λ e. IfScriptFault e (IsFault bytes))
+pub is_fault : (bytes : List ℕ) (r : Result Reading ReadScriptFault) → IsAnswer r (script_of bytes) → IfErr r (λ e. IfScriptFault e (IsFault bytes))
 is_fault bytes (Ok s) h = tt
 is_fault bytes (Err faults.OutOfMemory) h = tt
 is_fault bytes (Err (faults.Script line kind)) h = let P : Result Reading Fault → Type 0 = λ x. MatchResult x (IsScript bytes) (IsFault bytes) in subst P h (script_decides bytes)

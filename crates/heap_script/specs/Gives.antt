@@ -3,6 +3,7 @@ use Rattle.std.specs.Prelude.{◌≡◌, Result, Ok, Err}
 use Rattle.heap_script.specs.declared.fault.FaultKind.{FaultKind}
 use Rattle.heap_script.specs.declared.fault.ReadScriptFault.{ReadScriptFault}
 use Rattle.heap_script.specs.declared.fault.ReadScriptFault.TheVariants.{Script, OutOfMemory}
+use Rattle.heap_script.specs.Scripts.{Reading}
 use Rattle.heap_script.specs.Grammar.{Fault}
 
 -- seen by `view`, it is that value or that fault
@@ -19,6 +20,10 @@ Fails OutOfMemory read = Unit {0}
 abbrev pub Reads : {X Y : Type 0} → (X → Y) → Result X ReadScriptFault → Result Y Fault → Type 0
 Reads view (Ok x) read = read ≡ Ok (view x)
 Reads view (Err e) read = Fails e read
+
+-- a reader's answer is that script or that fault, unless memory ran out
+abbrev pub IsAnswer : Result Reading ReadScriptFault → Result Reading Fault → Type 0
+IsAnswer answer read = Reads (λ s. s) answer read
 
 -- a fact of a fault in a script
 abbrev pub IfScriptFault : ReadScriptFault → (Fault → Type 0) → Type 0

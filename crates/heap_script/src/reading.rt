@@ -4,7 +4,7 @@ ghost use Rattle.std.specs.Prelude.{◌≡◌, ◌≤◌, ◌<◌, ◌^◌, ◌+
 ghost use Rattle.std.specs.Option.{option_to_list};
 ghost use Rattle.std.specs.Str.Lines.{lines};
 ghost use Rattle.heap_script.specs.Scripts.{Reading, Fits, LineFits};
-ghost use Rattle.heap_script.specs.Gives.{Reads, IfScriptFault};
+ghost use Rattle.heap_script.specs.Gives.{Reads, IsAnswer, IfScriptFault};
 ghost use Rattle.heap_script.specs.Grammar.{Fault, commands_from, script_from, script_of};
 ghost use Rattle.heap_script.specs.FirstFault.{IsScript, IsFault};
 ghost use Rattle.heap_script.specs.Text.{text_of};
@@ -63,7 +63,7 @@ fn line_ends(bytes: &[u8]) -> usize
 #[tactic(auto, unfolding(crate::specs::Grammar::script_of))]
 fn script(alloc: Global, bytes: &[u8]) -> Result<Script, ReadScriptFault>
     requires { length bytes.now < 2 ^ 31 }
-    ensures exact { Reads (λ s. s) result (script_of bytes.now) }
+    ensures exact { IsAnswer result (script_of bytes.now) }
     ensures fits { IfOk result Fits }
 {
     let mut rest = bytes;
@@ -107,14 +107,14 @@ pub fn read_script(alloc: Global, bytes: &[u8]) -> Result<Script, ReadScriptFaul
     ensures fault { IfErr result (λ e. IfScriptFault e (IsFault bytes.now)) }
 
     // A script is read, and what has a fault is refused with it, unless memory runs out.
-    ensures reads { (s : Reading) → IsScript bytes.now s → Reads (λ x. x) result (Ok s) }
-    ensures refuses { (f : Fault) → IsFault bytes.now f → Reads (λ (x : Reading). x) result (Err f) }
+    ensures reads { (s : Reading) → IsScript bytes.now s → IsAnswer result (Ok s) }
+    ensures refuses { (f : Fault) → IsFault bytes.now f → IsAnswer result (Err f) }
 
     // The text of a script is read as that script, unless memory runs out.
-    ensures again { (s : Reading) → Fits s → bytes.now ≡ text_of s → Reads (λ x. x) result (Ok s) }
+    ensures again { (s : Reading) → Fits s → bytes.now ≡ text_of s → IsAnswer result (Ok s) }
 
     // Which script or fault it is, unless memory runs out.
-    ensures exact { Reads (λ x. x) result (script_of bytes.now) }
+    ensures exact { IsAnswer result (script_of bytes.now) }
 {
     script(alloc, bytes)
 }
