@@ -9,7 +9,6 @@ use Rattle.std.proofs.lemmas.List.Elements.{filter-append}
 use Rattle.heap_script.specs.declared.fault.FaultKind.{FaultKind}
 use Rattle.heap_script.specs.declared.fault.FaultKind.TheVariants.{NoHeapLine, NotAscii, TooManyLines}
 use Rattle.heap_script.specs.declared.script.Line.{Line}
-use Rattle.heap_words.specs.Layouts.{Sizes}
 use Rattle.heap_script.specs.Words.{Word, words, is_printable, is_passed_over}
 use Rattle.heap_script.specs.Scripts.{Reading}
 use Rattle.heap_script.specs.Grammar.{◌>>=◌, Heading, Fault, heading, heap_line, command, command_line, commands_from, each_from, script_from, script_of}

@@ -1,10 +1,10 @@
 -- What is printed is read again.
-use Rattle.std.proofs.Common.{◌≡◌, ℕ, ◌+◌, ◌-◌, ◌^◌, ◌<◌, ◌≤◌, true, false, ◌&&◌, ltb, leb, eqb, List, [], ◌∷◌, ◌++◌, length, get_or, Some, Result, Ok, Err, refl, ap, ◌∙◌, arith, append_assoc}
+use Rattle.std.proofs.Common.{◌≡◌, ℕ, ◌+◌, ◌-◌, ◌^◌, ◌<◌, ◌≤◌, true, false, ◌&&◌, ltb, leb, eqb, List, [], ◌∷◌, ◌++◌, length, get_or, None, Some, Result, Ok, Err, refl, ap, ◌∙◌, arith, append_assoc}
 use Rattle.std.specs.Prelude.{decimal, codes, count_by}
 use Rattle.std.specs.List.{AllByRecursion, flat_map, list_all, before_first, after_first, position_or_len}
 use Rattle.std.specs.Str.Lines.{lines}
 use Rattle.std.specs.Char.{is_ascii_digit}
-use Rattle.std.proofs.lemmas.Bool.{and_parts, and_right, lt-ltb, le-leb, lt-leb, ne_eqb, ltb-true}
+use Rattle.std.proofs.lemmas.Bool.{and_parts, and_right, lt-ltb, le-leb, lt-leb, le-ltb, ne_eqb, ltb-true}
 use Rattle.std.proofs.lemmas.List.Elements.{recursion_from_All}
 use Rattle.heap_script.specs.declared.fault.FaultKind.TheVariants.{BadNumber, BadThread}
 use Rattle.heap_words.specs.declared.operand.Operand.{Operand}
@@ -13,6 +13,7 @@ use Rattle.heap_script.specs.declared.script.Command.{Command}
 use Rattle.heap_script.specs.declared.script.Command.TheVariants as commands
 use Rattle.heap_script.specs.declared.script.Line.{Line}
 use Rattle.heap_words.specs.Layouts.{Sizes, IsLayout}
+use Rattle.heap_words.specs.LayoutFaults.{first_fault}
 use Rattle.heap_script.specs.Words.{Word}
 use Rattle.heap_script.specs.Grammar.{◌>>=◌, due, place, operand, new_arguments, get_arguments, cas_arguments, copy_arguments, drop_arguments, is_within, within_limits, put_arguments, poll_arguments, arguments, command, keyword, any_number, heading, heap_line, command_line, commands_from, each_from, script_from, script_of}
 use Rattle.heap_script.specs.Scripts.{Reading, OperandFits, CommandFits, LineFits, Fits}
@@ -78,18 +79,24 @@ any_number_again : (n : ℕ) (ws : List Word) → n < 2 ^ 64 → any_number (dec
 unfolding any_number
 any_number_again n ws h = rw (number_again n h) refl
 
--- a layout is within its limits
+-- a layout has no number out of its range
+layout_no_fault : (l : Sizes) → IsLayout l → first_fault l ≡ None
+layout_no_fault l k =
+    let a : ltb l.passes 1 ≡ false = le-ltb _ _ k.passes.0 in
+    let b : ltb 8 l.passes ≡ false = le-ltb _ _ k.passes.1 in
+    let c : ltb l.quota 1 ≡ false = le-ltb _ _ k.quota.0 in
+    let d : ltb 256 l.quota ≡ false = le-ltb _ _ k.quota.1 in
+    let e : ltb l.pool 1 ≡ false = le-ltb _ _ k.pool.0 in
+    let f : ltb 512 l.pool ≡ false = le-ltb _ _ k.pool.1 in
+    let g : ltb l.wide 0 ≡ false = le-ltb _ _ (omega arith) in
+    let h : ltb 65536 l.wide ≡ false = le-ltb _ _ k.wide in
+    rw (a, b, c, d, e, f, g, h) refl
+
+-- a layout is within the limits
 pub within_yes : (l : Sizes) (cycles : ℕ) → IsLayout l → cycles ≤ 64 → is_within l cycles ≡ true
 within_yes l cycles k few =
-    let a : leb 1 l.passes ≡ true = le-leb _ _ k.passes.0 in
-    let b : leb l.passes 8 ≡ true = le-leb _ _ k.passes.1 in
-    let c : leb 1 l.quota ≡ true = le-leb _ _ k.quota.0 in
-    let d : leb l.quota 256 ≡ true = le-leb _ _ k.quota.1 in
-    let e : leb 1 l.pool ≡ true = le-leb _ _ k.pool.0 in
-    let f : leb l.pool 512 ≡ true = le-leb _ _ k.pool.1 in
-    let g : leb l.wide 65536 ≡ true = le-leb _ _ k.wide in
     let i : leb cycles 64 ≡ true = le-leb _ _ few in
-    rw (a, b, c, d, e, f, g, i) refl
+    rw (layout_no_fault l k, i) refl
 
 within_again : (l : Sizes) (cycles : ℕ) → IsLayout l → cycles ≤ 64 → within_limits l cycles ≡ Ok (l, cycles)
 unfolding within_limits

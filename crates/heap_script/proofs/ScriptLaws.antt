@@ -1,8 +1,10 @@
 -- Laws of scripts and their texts, for the crates above.
-use Rattle.std.proofs.Common.{◌≡◌, ℕ, ◌≤◌, Bool, true, ◌&&◌, leb, List, Result, Ok, Err, refl, sym, ap, ◌∙◌, subst, arith}
-use Rattle.std.specs.Prelude.{MatchResult, nat_le}
-use Rattle.std.proofs.lemmas.Bool.{and_parts, leb-true}
+use Rattle.std.proofs.Common.{◌≡◌, ℕ, ◌≤◌, Bool, true, false, cond, leb, ltb, None, Some, List, Result, Ok, Err, refl, sym, ap, ◌∙◌, subst}
+use Rattle.std.specs.Prelude.{MatchResult, is_none}
+use Rattle.std.proofs.lemmas.Bool.{and_parts, or_parts, leb-true, ltb-false}
 use Rattle.heap_words.specs.Layouts.{Sizes, IsLayout}
+use Rattle.heap_words.specs.LayoutFaults.{is_outside, first_fault}
+use Rattle.heap_words.specs.declared.layout.LayoutFault.TheVariants.{Passes, Quota, Pool, Wide}
 use Rattle.heap_script.specs.Scripts.{Reading, Fits}
 use Rattle.heap_script.specs.Grammar.{Fault, is_within, script_of}
 use Rattle.heap_script.specs.FirstFault.{IsScript, IsFault}
@@ -55,21 +57,28 @@ other-text_of bytes s t e k same = ap text_of (one_reading (script_of bytes) s t
 
 -- ---- the limits of the heap line
 
--- within the limits is a layout, with at most 64 cycles
+no_fault : (a b c d : Bool) → is_none (cond a (Some Passes) (cond b (Some Quota) (cond c (Some Pool) (cond d (Some Wide) None)))) ≡ true → (a ≡ false) × (b ≡ false) × (c ≡ false) × (d ≡ false)
+no_fault true b c d e = absurd cc
+no_fault false true c d e = absurd cc
+no_fault false false true d e = absurd cc
+no_fault false false false true e = absurd cc
+no_fault false false false false e = (refl, refl, refl, refl)
+
+in_range : (low high n : ℕ) → is_outside low high n ≡ false → (low ≤ n) × (n ≤ high)
+in_range low high n e =
+    let p = or_parts (ltb n low) (ltb high n) e in
+    (ltb-false _ _ p.0, ltb-false _ _ p.1)
+
+-- what is within the limits is a layout, with at most 64 cycles
 pub is_within-IsLayout : (l : Sizes) (cycles : ℕ) → is_within l cycles ≡ true → IsLayout l × (cycles ≤ 64)
 is_within-IsLayout l cycles e =
-    let h = and_parts _ (leb cycles 64) e in
-    let g = and_parts _ (leb l.wide 65536) h.0 in
-    let f = and_parts _ (leb l.pool 512) g.0 in
-    let d = and_parts _ (leb 1 l.pool) f.0 in
-    let c = and_parts _ (leb l.quota 256) d.0 in
-    let b = and_parts _ (leb 1 l.quota) c.0 in
-    let a = and_parts (leb 1 l.passes) (leb l.passes 8) b.0 in (
+    let h = and_parts (is_none (first_fault l)) (leb cycles 64) e in
+    let n = no_fault (is_outside 1 8 l.passes) (is_outside 1 256 l.quota) (is_outside 1 512 l.pool) (is_outside 0 65536 l.wide) h.0 in (
       record {
-        passes = (leb-true _ _ a.0, leb-true _ _ a.1);
-        quota = (leb-true _ _ b.1, leb-true _ _ c.1);
-        pool = (leb-true _ _ d.1, leb-true _ _ f.1);
-        wide = leb-true _ _ g.1;
+        passes = in_range 1 8 l.passes n.0;
+        quota = in_range 1 256 l.quota n.1;
+        pool = in_range 1 512 l.pool n.2;
+        wide = (in_range 0 65536 l.wide n.3).1;
       },
       leb-true _ _ h.1,
     )

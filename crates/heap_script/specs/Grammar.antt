@@ -1,10 +1,11 @@
 -- The grammar of scripts: what each line says, or the first thing that is wrong with it.
-use Rattle.std.specs.Prelude.{Bool, ℕ, ◌+◌, ◌-◌, ◌^◌, List, [], ◌∷◌, length, codes, count_by, ◌&&◌, not, nat_lt, nat_le, ◌==◌, Option, Some, None, Result, Ok, Err, if◌then◌else◌, slice_index}
+use Rattle.std.specs.Prelude.{Bool, ℕ, ◌+◌, ◌-◌, ◌^◌, List, [], ◌∷◌, length, codes, count_by, ◌&&◌, not, nat_lt, nat_le, ◌==◌, Option, Some, None, Result, Ok, Err, is_none, if◌then◌else◌, slice_index}
 use Rattle.std.specs.List.{before_first, after_first, position_or_len}
 use Rattle.std.specs.Str.{bytes_eq}
 use Rattle.std.specs.Str.Lines.{lines}
 use Rattle.std.specs.Char.{is_ascii_digit}
 use Rattle.heap_words.specs.Layouts.{Sizes}
+use Rattle.heap_words.specs.LayoutFaults.{first_fault}
 use Rattle.heap_words.specs.declared.operand.Operand.{Operand}
 use Rattle.heap_words.specs.declared.operand.Operand.TheVariants as operands
 use Rattle.heap_script.specs.declared.fault.FaultKind.{FaultKind}
@@ -170,13 +171,9 @@ any_number ws = do
   n ← or_fault BadNumber (number_of a.0)
   Ok (n, a.1)
 
--- the limits of a layout, and at most 64 cycles
+-- each number of the layout is in its range, and there are at most 64 cycles
 abbrev pub is_within : Sizes → ℕ → Bool
-is_within l cycles =
-    nat_le 1 l.passes && nat_le l.passes 8
-    && nat_le 1 l.quota && nat_le l.quota 256
-    && nat_le 1 l.pool && nat_le l.pool 512
-    && nat_le l.wide 65536 && nat_le cycles 64
+is_within l cycles = is_none (first_fault l) && nat_le cycles 64
 
 -- what the heap line says: the layout, and the cycles
 abbrev pub Heading : Type 0
