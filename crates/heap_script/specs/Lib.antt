@@ -1,0 +1,6 @@
+pub mod Words
+pub mod Scripts
+pub mod Grammar
+pub mod FirstFault
+pub mod Text
+pub mod Gives
