@@ -34,6 +34,7 @@ pub use fault::{FaultKind, OutOfMemory, ReadScriptFault};
 pub use printing::print_script;
 pub use reading::read_script;
 pub use script::{Command, Line, Script};
+pub use words::number;
 
 #[cfg(test)]
 mod tests;

@@ -95,7 +95,7 @@ pub(crate) fn passed_over(line: &[u8]) -> bool
 }
 
 /// The number that the word is: 1 to 20 digits, so less than 10^20.
-pub(crate) fn number(word: &[u8]) -> Option<u128>
+pub fn number(word: &[u8]) -> Option<u128>
     ensures { result ≡ number_of word.now }
 {
     if word.is_empty() || word.len() > 20 {
