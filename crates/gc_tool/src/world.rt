@@ -14,7 +14,8 @@ use crate::settling::settle;
 use crate::thread::{Settled, Thread};
 use crate::told::Told;
 use call_steps::{Machine, OutOfMemory, PlainWords, Step};
-use heap_script::{Command, Line, Script};
+use heap_history::Entry;
+use heap_script::{Answer, Line, Script};
 use heap_words::{FieldWord, Layout};
 use std::alloc::Global;
 
@@ -162,5 +163,30 @@ impl World {
                 self.thread = Thread { doing, ..thread };
             }
         }
+    }
+}
+
+impl World {
+    /// Takes turns until the thread has ended, at most so many. True where it has ended.
+    pub fn run(&mut self, steps: u64) -> bool {
+        for _ in 0..steps {
+            if self.is_over() {
+                return true;
+            }
+            self.turn();
+        }
+        self.is_over()
+    }
+
+    pub fn entries(&self) -> &[Entry]
+        ensures { result.now ≡ self.now.told.entries }
+    {
+        self.told.entries()
+    }
+
+    pub fn answers(&self) -> &[Answer]
+        ensures { result.now ≡ self.now.told.answers }
+    {
+        self.told.answers()
     }
 }
