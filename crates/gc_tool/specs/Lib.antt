@@ -15,3 +15,4 @@ pub mod Outside
 pub mod Statuses
 pub mod Memories
 pub mod Forms
+pub mod Lawful

@@ -1,5 +1,5 @@
 -- A source and a sink in memory, of which each call is known exactly.
-use Rattle.std.specs.Prelude.{◌≡◌, ℕ, ◌+◌, ◌-◌, ◌^◌, ◌<◌, ◌⊎◌, min, List, ◌++◌, length, take, drop, Contains}
+use Rattle.std.specs.Prelude.{◌≡◌, ℕ, ◌+◌, ◌-◌, ◌^◌, ◌<◌, ◌⊎◌, min, List, ◌++◌, length, drop, Contains}
 
 -- the bytes that are left, how many a call moves at most, the numbers of the calls that fail,
 -- and how many calls were made and failed

@@ -1,4 +1,4 @@
-use Rattle.std.proofs.Common.{◌≤◌, ℕ, length}
+use Rattle.std.proofs.Common.{◌≤◌, length}
 use Rattle.gc_tool.specs.Outside.{AppendsUpTo}
 use Rattle.gc_tool.proofs.writing.give_all.Given as goal
 

@@ -1,0 +1,126 @@
+-- The objects in memory: what a store in a field and a new header leave of them.
+use Rattle.std.proofs.Common.{◌≡◌, ◌≢◌, ℕ, ◌+◌, ◌*◌, ◌<◌, ◌≤◌, ◌⊎◌, List, [], ◌∷◌, length, get_or, set, replicate, cond, eqb, true, false, refl, sym, ap, ◌∙◌, subst, arith, inl, inr, length-set, get_or-set_same, get_or-set_other}
+use Rattle.std.proofs.lemmas.Bool.Decides.{eqb_tells}
+use Rattle.std.proofs.lemmas.List.{length-replicate, get_or-replicate}
+use Rattle.std.proofs.Math.Decide.{dec_lt}
+use Rattle.std.proofs.Math.Logic.{yes, no}
+use Rattle.heap_words.specs.Layouts.{Sizes, IsLayout, first_word, regions_of}
+use Rattle.heap_words.specs.FieldWords.{word_of}
+use Rattle.heap_words.specs.declared.field_word.FieldWord.{FieldWord}
+use Rattle.heap_words.specs.declared.field_word.FieldWord.TheVariants.{Num, Link}
+use Rattle.call_steps.specs.StepLaws.{Put}
+use Rattle.gc_tool.specs.Headers.{plain_header}
+use Rattle.gc_tool.specs.Lawful.{View, Stands, Laid, IsOwn, IsObject, len_of, base}
+
+-- the view with other fields of one object
+abbrev pub with_fields : View → ℕ → List FieldWord → View
+with_fields v b fs = record { at = v.at; fields = λ x. cond (eqb x b) fs (v.fields x) }
+
+pub fields_here : (v : View) (b : ℕ) (fs : List FieldWord) → (with_fields v b fs).fields b ≡ fs
+fields_here v b fs = elim (eqb_tells b b) [ inl p ↦ rw p.0 refl | inr p ↦ absurd (p.1 refl) ]
+
+pub fields_there : (v : View) (b : ℕ) (fs : List FieldWord) (c : ℕ) → c ≢ b → (with_fields v b fs).fields c ≡ v.fields c
+fields_there v b fs c ne = elim (eqb_tells c b) [ inl p ↦ absurd (ne p.1) | inr p ↦ rw p.0 refl ]
+
+-- the common object lies before the thread's region
+pub before_base : (l : Sizes) → IsLayout l → first_word l 0 + 64 ≤ base l
+before_base l h = omega (arith, h.pool.0)
+
+module _ (m : ℕ → ℕ) (l : Sizes) (il : IsLayout l) (used made : ℕ) (v : View) (laid : Laid m l used made v) where
+  -- two objects do not overlap
+  pub objects_apart : (b c : ℕ) → IsObject made b → IsObject made c → b ≢ c → (v.at b + len_of v b < v.at c) ⊎ (v.at c + len_of v c < v.at b)
+  objects_apart b c (inl e) (inl g) ne = absurd (ne (e ∙ sym g))
+  objects_apart b c (inl e) (inr own) ne =
+      let at : v.at b ≡ first_word l 0 = ap v.at e ∙ laid.common_at in
+      let len : len_of v b ≡ 8 = ap (len_of v) e ∙ laid.common_len in
+      inl (omega (arith, at, len, before_base l il, laid.above c own))
+  objects_apart b c (inr own) (inl g) ne =
+      let at : v.at c ≡ first_word l 0 = ap v.at g ∙ laid.common_at in
+      let len : len_of v c ≡ 8 = ap (len_of v) g ∙ laid.common_len in
+      inr (omega (arith, at, len, before_base l il, laid.above b own))
+  objects_apart b c (inr own) (inr other) ne = elim (dec_lt b c) [
+    | yes lt ↦ inl (laid.apart b c own other lt)
+    | no ge ↦ let lt : c < b = omega (arith, ge, ne) in inr (laid.apart c b other own lt)
+  ]
+
+  -- an object ends before the words that are not used yet
+  pub object_below : (b : ℕ) → IsObject made b → v.at b + 1 + len_of v b ≤ base l + used
+  object_below b (inl e) =
+      let at : v.at b ≡ first_word l 0 = ap v.at e ∙ laid.common_at in
+      let len : len_of v b ≡ 8 = ap (len_of v) e ∙ laid.common_len in
+      omega (arith, at, len, before_base l il)
+  object_below b (inr own) = laid.below b own
+
+  -- no object is longer than 30 fields
+  pub object_short : (b : ℕ) → IsObject made b → len_of v b ≤ 30
+  object_short b (inl e) = let len : len_of v b ≡ 8 = ap (len_of v) e ∙ laid.common_len in omega (arith, len)
+  object_short b (inr own) = laid.short b own
+
+-- the same words in another memory
+pub laid_same : (m n : ℕ → ℕ) (l : Sizes) (used made : ℕ) (v : View) → ((a : ℕ) → n a ≡ m a) → Laid m l used made v → Laid n l used made v
+laid_same m n l used made v same laid = record {
+  stands = λ b h. record { header = same (v.at b) ∙ (laid.stands b h).header; words = λ f k. same (v.at b + 1 + f) ∙ (laid.stands b h).words f k };
+  common_at = laid.common_at;
+  common_len = laid.common_len;
+  above = laid.above;
+  below = laid.below;
+  apart = laid.apart;
+  short = laid.short;
+  clear = λ i h k. same (base l + i) ∙ laid.clear i h k;
+  within = laid.within;
+}
+
+-- ---- a store in a field
+
+module _ (m n : ℕ → ℕ) (l : Sizes) (il : IsLayout l) (used made : ℕ) (v : View) (laid : Laid m l used made v)
+    (b f : ℕ) (w : FieldWord) (object : IsObject made b) (within : f < len_of v b) (put : Put m n (v.at b + 1 + f) (word_of w)) where
+  abbrev new : View
+  new = with_fields v b (set (v.fields b) f w)
+
+  len_same : (c : ℕ) → len_of new c ≡ len_of v c
+  len_same c = elim (eqb_tells c b) [
+    | inl p ↦ rw p.0 (length-set (v.fields b) f w ∙ ap (len_of v) (sym p.1))
+    | inr p ↦ rw p.0 refl
+  ]
+
+  at_field : (g : ℕ) → g < len_of v b → n (v.at b + 1 + g) ≡ word_of (get_or (set (v.fields b) f w) g (Num 0))
+  at_field g k = elim (eqb_tells g f) [
+    | inl p ↦ ap (λ x. n (v.at b + 1 + x)) p.1 ∙ put.here ∙ ap word_of (sym (ap (λ x. get_or (set (v.fields b) f w) x (Num 0)) p.1 ∙ get_or-set_same (v.fields b) f w (Num 0) within))
+    | inr p ↦ put.elsewhere (v.at b + 1 + g) (λ e. p.1 (omega (arith, e))) ∙ (laid.stands b object).words g k ∙ ap word_of (sym (get_or-set_other (v.fields b) g f w (Num 0) p.1))
+  ]
+
+  stands_here : Stands n new b
+  stands_here = record {
+    header = put.elsewhere (v.at b) (λ e. omega (arith, e)) ∙ (laid.stands b object).header ∙ ap (λ x. plain_header x b) (sym (len_same b));
+    words = λ g k. at_field g (subst (λ (x : ℕ). g < x) (len_same b) k) ∙ ap (λ (fs : List FieldWord). word_of (get_or fs g (Num 0))) (sym (fields_here v b (set (v.fields b) f w)));
+  }
+
+  away : (c : ℕ) → IsObject made c → c ≢ b → (g : ℕ) → g ≤ len_of v c → v.at c + g ≢ v.at b + 1 + f
+  away c other ne g k e = elim (objects_apart m l il used made v laid c b other object ne) [
+    | inl lt ↦ omega (arith, lt, e, within)
+    | inr lt ↦ omega (arith, lt, e, within)
+  ]
+
+  stands_there : (c : ℕ) → IsObject made c → c ≢ b → Stands n new c
+  stands_there c other ne =
+      let fs = fields_there v b (set (v.fields b) f w) c ne in
+      record {
+        header = put.elsewhere (v.at c) (λ e. away c other ne 0 (omega arith) (omega (arith, e))) ∙ (laid.stands c other).header ∙ ap (λ x. plain_header x c) (sym (len_same c));
+        words = λ g k.
+            let short : g < len_of v c = subst (λ (x : ℕ). g < x) (len_same c) k in
+            put.elsewhere (v.at c + 1 + g) (λ e. away c other ne (1 + g) (omega (arith, short)) (omega (arith, e)))
+            ∙ (laid.stands c other).words g short ∙ ap (λ (xs : List FieldWord). word_of (get_or xs g (Num 0))) (sym fs);
+      }
+
+  pub laid_store : Laid n l used made new
+  laid_store = record {
+    stands = λ c other. elim (eqb_tells c b) [ inl p ↦ subst (Stands n new) (sym p.1) stands_here | inr p ↦ stands_there c other p.1 ];
+    common_at = laid.common_at;
+    common_len = len_same 1 ∙ laid.common_len;
+    above = laid.above;
+    below = λ c own. omega (arith, len_same c, laid.below c own);
+    apart = λ c d own other lt. omega (arith, len_same c, laid.apart c d own other lt);
+    short = λ c own. omega (arith, len_same c, laid.short c own);
+    clear = λ i h k. put.elsewhere (base l + i) (λ e. omega (arith, e, h, within, object_below m l il used made v laid b object)) ∙ laid.clear i h k;
+    within = laid.within;
+  }
