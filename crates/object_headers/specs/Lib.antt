@@ -1,0 +1,5 @@
+pub mod States
+pub mod Headers
+pub mod HeaderLaws
+pub mod Changes
+pub mod ChangeLaws
