@@ -1,2 +1,3 @@
 pub mod FixedHeaps
 pub mod Histories
+pub mod HistoryLaws
