@@ -2,5 +2,7 @@
 #![tactic(auto)]
 
 mod call;
+mod fixed_heap;
 
 pub use call::{Call, Entry, Reply, Value};
+pub use fixed_heap::{FixedHeap, OutOfMemory};
