@@ -1,5 +1,5 @@
 -- Laws of heaps and histories over variables, for crates that reason about them.
-use Rattle.std.specs.Prelude.{◌≡◌, ◌≢◌, ℕ, zero, suc, ◌+◌, ◌-◌, ◌≤◌, List, [], ◌∷◌, ◌++◌, length, take, drop, Bool, true, false, cond, if◌then◌else◌, IsTrue, Some, is_some, IsSome, slice_get, slice_set}
+use Rattle.std.specs.Prelude.{◌≡◌, ◌≢◌, ℕ, zero, suc, ◌+◌, ◌-◌, ◌≤◌, ◌<◌, List, [], ◌∷◌, ◌++◌, length, take, drop, Bool, true, false, cond, if◌then◌else◌, IsTrue, Option, Some, None, is_some, IsSome, slice_get, slice_set}
 use Rattle.std.specs.declared.cmp.Ordering.{Ordering}
 use Rattle.std.specs.declared.cmp.Ordering.TheVariants.{Less, Equal, Greater}
 use Rattle.std.specs.Ordering.{nat_cmp, is_eq, match_ordering}
@@ -8,10 +8,11 @@ use Rattle.std.specs.Map.{set_value}
 use Rattle.std.specs.BTreeMap.{is_at, insert_entry}
 use Rattle.std.proofs.Common.{refl, sym, ap, subst, ◌∙◌, ⊎_elim, arith}
 use Rattle.std.proofs.Math.Seq.{take-length, drop-append_seam}
-use Rattle.std.proofs.lemmas.Bool.{cases_eq, cases_lt, ne_eqb, eq-eqb, true≢false}
+use Rattle.std.proofs.lemmas.Bool.{cases_eq, cases_lt, cases_order, ne_eqb, eq-eqb, true≢false}
 use Rattle.std.proofs.lemmas.Cmp.{tied_itself, nat_cmp_total, eq_by_cmp_equiv}
 use Rattle.std.proofs.lemmas.List.{take-append-le, drop-append-le, map-append, length-append, length-drop}
 use Rattle.std.proofs.lemmas.List.Elements.{filter-append}
+use Rattle.std.proofs.lemmas.Option.{same_Some}
 use Rattle.std.proofs.lemmas.Map.{lookup-set_value}
 use Rattle.std.proofs.lemmas.Map.Entries.{lookup_head, lookup_tail}
 use Rattle.std.proofs.lemmas.Map.Lookups.{exact_unsigned}
@@ -22,8 +23,8 @@ use Rattle.heap_history.specs.declared.call.Call.TheVariants.{NewObject, Read, W
 use Rattle.heap_history.specs.declared.call.Reply.{Reply}
 use Rattle.heap_history.specs.declared.call.Reply.TheVariants.{Made, Got, Wrote, Done, Differs, NotThere}
 use Rattle.heap_history.specs.declared.call.Entry.{Entry}
-use Rattle.heap_history.specs.FixedHeaps.{Heap, opening, fields_of, with_field, write_in, answer, changed, after}
-use Rattle.heap_history.specs.Histories.{pass_of, is_change, IsAccepted, heap_after, calls, changes, heap_at, IsHistory, made_by, between, Ended, change_of, seen_before, IsNext}
+use Rattle.heap_history.specs.FixedHeaps.{Heap, opening, fields_of, field_in, value_in, with_field, write_in, answer, changed, after}
+use Rattle.heap_history.specs.Histories.{pass_of, is_change, IsAccepted, heap_after, calls, changes, heap_at, IsHistory, made_by, between, Ended, change_of, seen_before, IsNext, IsFirstBad}
 
 -- ---- the fields of an object after a change
 
@@ -112,6 +113,28 @@ slice_get-set_other (y ∷ xs) zero x zero apart = absurd (apart refl)
 slice_get-set_other (y ∷ xs) zero x (suc j) apart = refl
 slice_get-set_other (y ∷ xs) (suc i) x zero apart = refl
 slice_get-set_other (y ∷ xs) (suc i) x (suc j) apart = slice_get-set_other xs i x j (λ same. apart (ap suc same))
+
+-- ---- one field after a change
+
+written_field : (heap : Heap) (object field : ℕ) (value held : Value) (had : Option (List Value)) → fields_of heap object ≡ had → field_in had field ≡ Some held → value_in (write_in heap object field value) object field ≡ Some value
+written_field heap object field value held None is at = absurd (cc)
+written_field heap object field value held (Some values) is at = ap (λ fields. field_in fields field) (fields_of-write heap object field value values is) ∙ slice_get-set values field value held at
+
+-- a written field
+pub value_in-write : (heap : Heap) (object field : ℕ) (value held : Value) → value_in heap object field ≡ Some held → value_in (write_in heap object field value) object field ≡ Some value
+value_in-write heap object field value held was = written_field heap object field value held (fields_of heap object) refl was
+
+other_field : (heap : Heap) (object field : ℕ) (value held : Value) (place : ℕ) (had : Option (List Value)) → fields_of heap object ≡ had → field_in had field ≡ Some held → place ≢ field → value_in (write_in heap object field value) object place ≡ field_in had place
+other_field heap object field value held place None is at apart = absurd (cc)
+other_field heap object field value held place (Some values) is at apart = ap (λ fields. field_in fields place) (fields_of-write heap object field value values is) ∙ slice_get-set_other values field value place apart
+
+-- another field of the object
+pub value_in-write_other_field : (heap : Heap) (object field : ℕ) (value held : Value) (place : ℕ) → value_in heap object field ≡ Some held → place ≢ field → value_in (write_in heap object field value) object place ≡ value_in heap object place
+value_in-write_other_field heap object field value held place was apart = other_field heap object field value held place (fields_of heap object) refl was apart
+
+-- and a field of another object
+pub value_in-write_other : (heap : Heap) (object field : ℕ) (value : Value) (other place : ℕ) → other ≢ object → value_in (write_in heap object field value) other place ≡ value_in heap other place
+value_in-write_other heap object field value other place apart = ap (λ fields. field_in fields place) (fields_of-write_other heap object field value other apart)
 
 -- ---- calls one after another
 
@@ -246,3 +269,58 @@ IsNext-change history pass call reply change own told =
       last = λ _. ap (λ i. slice_get (history ++ call ∷ []) i) before ∙ slice_get-push history call;
       reply = ap (λ n. answer (heap_at (history ++ call ∷ []) n) call) seen ∙ ap (λ heap. answer heap call) (heap_at-append history (call ∷ []) (length history) (omega arith) ∙ heap_at-length history) ∙ told;
     }
+
+-- ---- the first bad entry
+
+-- Each of some accepted entries has the heap's reply, which is not that something is not there.
+pub IsAccepted-at : (heap : Heap) (es : List Entry) (i : ℕ) (e : Entry) → IsAccepted heap es → slice_get es i ≡ Some e → (answer (heap_after heap (calls (take i es))) e.call ≡ e.reply) × (e.reply ≢ NotThere)
+IsAccepted-at heap [] i e accepted at = absurd (cc)
+IsAccepted-at heap (d ∷ es) zero e accepted at = let P : Entry → Type 0 = λ x. (answer heap x.call ≡ x.reply) × (x.reply ≢ NotThere) in subst P (same_Some d e at) (accepted.0, accepted.1)
+IsAccepted-at heap (d ∷ es) (suc i) e accepted at = IsAccepted-at (after heap d.call) es i e accepted.2 at
+
+-- accepted entries have no bad one
+pub accepted_has_no_bad : (es : List Entry) (index : ℕ) (wanted found : Reply) → IsAccepted opening es → IsFirstBad es index wanted found → ⊥
+accepted_has_no_bad es index wanted found accepted first =
+    let told = IsAccepted-at opening es index first.entry accepted first.at in
+    let same : wanted ≡ found = sym first.wanted_is ∙ told.0 ∙ first.found_is in
+    ⊎_elim (λ other. other same) (λ none. told.1 (first.found_is ∙ sym same ∙ none)) first.bad
+
+-- an element of a list's front
+slice_get-take : {X : Type 0} → (xs : List X) (i j : ℕ) (x : X) → i < j → slice_get xs i ≡ Some x → slice_get (take j xs) i ≡ Some x
+slice_get-take [] i j x below at = absurd (cc)
+slice_get-take (y ∷ xs) i zero x below at = absurd (omega arith)
+slice_get-take (y ∷ xs) zero (suc j) x below at = at
+slice_get-take (y ∷ xs) (suc i) (suc j) x below at = slice_get-take xs i j x (omega arith) at
+
+-- a front of a longer front
+take-take : {X : Type 0} → (xs : List X) (i j : ℕ) → i ≤ j → take i (take j xs) ≡ take i xs
+take-take xs zero j below = refl
+take-take xs (suc i) zero below = absurd (omega arith)
+take-take [] (suc i) (suc j) below = refl
+take-take (x ∷ xs) (suc i) (suc j) below = ap (λ rest. x ∷ rest) (take-take xs i j (omega arith))
+
+-- the first bad entry is so in each front of the list that has it
+IsFirstBad-take : (es : List Entry) (index more : ℕ) (wanted found : Reply) → index < more → IsFirstBad es index wanted found → IsFirstBad (take more es) index wanted found
+IsFirstBad-take es index more wanted found below first =
+    let same : take index (take more es) ≡ take index es = take-take es index more (omega arith) in
+    record {
+      entry = first.entry;
+      at = slice_get-take es index more first.entry below first.at;
+      earlier = rw same first.earlier;
+      wanted_is = rw same first.wanted_is;
+      found_is = first.found_is;
+      bad = first.bad;
+    }
+
+-- there is one first bad entry at most
+pub IsFirstBad-unique : (es : List Entry) (i j : ℕ) (wanted other found reply : Reply) → IsFirstBad es i wanted found → IsFirstBad es j other reply → (i ≡ j) × (wanted ≡ other) × (found ≡ reply)
+IsFirstBad-unique es i j wanted other found reply first second =
+    ⊎_elim
+    (λ same.
+    let entry : first.entry ≡ second.entry = same_Some first.entry second.entry (sym first.at ∙ ap (λ k. slice_get es k) same ∙ second.at) in
+    (same, sym first.wanted_is ∙ ap (λ k. answer (heap_after opening (calls (take k es))) first.entry.call) same ∙ ap (λ e. answer (heap_after opening (calls (take j es))) e.call) entry ∙ second.wanted_is, sym first.found_is ∙ ap (λ e. e.reply) entry ∙ second.found_is))
+    (λ apart. absurd (⊎_elim
+    (λ below. accepted_has_no_bad (take j es) i wanted found second.earlier (IsFirstBad-take es i j wanted found below first))
+    (λ above. accepted_has_no_bad (take i es) j other reply first.earlier (IsFirstBad-take es j i other reply above second))
+    apart))
+    (cases_order i j)
