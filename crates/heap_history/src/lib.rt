@@ -8,3 +8,6 @@ mod fixed_heap;
 pub use call::{Call, Entry, Reply, Value};
 pub use check::{CheckFault, check_history};
 pub use fixed_heap::{FixedHeap, OutOfMemory};
+
+#[cfg(test)]
+mod tests;
