@@ -1,1 +1,3 @@
 pub mod WorkedSession
+pub mod Objects
+pub mod Refusals

@@ -34,9 +34,16 @@ session_is_legal : IsLegal (made ∷ written ∷ []) (ended ∷ [])
 session_is_legal = record {
   fits = (refl, (refl, tt));
   passes = All-from_recursion (λ c. (1 ≤ pass_of c) × (pass_of c ≤ 1)) (made ∷ written ∷ []) ((lit≤ tt, lit≤ tt), ((lit≤ tt, lit≤ tt), tt));
-  follows = ((record { later = lit≤ tt; within = lit≤ tt; own = refl; last = λ _. refl; reply = refl },
-    (record { later = lit≤ tt; within = lit≤ tt; own = refl; last = λ _. refl; reply = refl },
-    (record { later = lit≤ tt; within = lit≤ tt; own = refl; last = λ e. cc; reply = refl }, refl))), tt);
+  follows = (
+    (
+      record { later = lit≤ tt; within = lit≤ tt; own = refl; last = λ _. refl; reply = refl },
+      (
+        record { later = lit≤ tt; within = lit≤ tt; own = refl; last = λ _. refl; reply = refl },
+        (record { later = lit≤ tt; within = lit≤ tt; own = refl; last = λ e. cc; reply = refl }, refl),
+      ),
+    ),
+    tt,
+  );
 }
 
 -- a reply that is not the heap's is the first bad entry

@@ -1,5 +1,5 @@
 -- A heap whose objects never move: by birth number, the values of the fields.
-use Rattle.std.specs.Prelude.{ℕ, ◌+◌, ◌*◌, List, [], ◌∷◌, Bool, true, false, ◌&&◌, not, nat_le, ◌==◌, Option, Some, None, is_some, if◌then◌else◌, slice_get, slice_set, replicate}
+use Rattle.std.specs.Prelude.{ℕ, ◌+◌, ◌*◌, List, [], ◌∷◌, Bool, true, false, ◌&&◌, not, nat_le, ◌==◌, Option, Some, None, is_some, if◌then◌else◌, slice_get, slice_set, replicate, Vec}
 use Rattle.std.specs.Ordering.{nat_cmp}
 use Rattle.std.specs.Map.{lookup, set_value}
 use Rattle.std.specs.BTreeMap.{is_at, insert_entry}
@@ -13,6 +13,11 @@ use Rattle.heap_history.specs.declared.call.Reply.TheVariants.{Made, Got, Wrote,
 -- a finite map, as its entries in rising birth number
 abbrev pub Heap : Type 0
 Heap = List (ℕ × List Value)
+
+-- a map of vectors, as the lists that they hold
+abbrev pub objects_of : {A : Type 0} → List (ℕ × Vec Value A) → Heap
+objects_of [] = []
+objects_of (e ∷ es) = (e.0, e.1.items) ∷ objects_of es
 
 abbrev pub zeros : ℕ → List Value
 zeros len = replicate len (Num 0)
@@ -68,6 +73,11 @@ wrote (Some value) = Wrote
 abbrev pub compared : Value → Option Value → Reply
 compared expected None = NotThere
 compared expected (Some value) = if is_same value expected then Done else Differs value
+
+-- a call that takes memory
+abbrev pub is_new_object : Call → Bool
+is_new_object (NewObject pass birth len) = true
+is_new_object _ = false
 
 -- The heap's answer to a call.
 abbrev pub answer : Heap → Call → Reply

@@ -2,5 +2,12 @@
 #![tactic(auto)]
 
 mod call;
+mod check;
+mod fixed_heap;
 
 pub use call::{Call, Entry, Reply, Value};
+pub use check::{CheckFault, check_history};
+pub use fixed_heap::{FixedHeap, OutOfMemory};
+
+#[cfg(test)]
+mod tests;

@@ -1,0 +1,166 @@
+//! The fixed heap.
+
+ghost use Rattle.std.specs.Prelude.{◌≡◌, ℕ, IsTrue, IsSome, IfOk, OnOk, OnErr};
+ghost use Rattle.heap_history.specs.FixedHeaps.{opening, is_birth_of, is_there, value_in, write_in, answer, after, is_new_object};
+
+use crate::call::{Call, Reply, Value};
+use std::alloc::{AllocError, Global};
+use std::collections::BTreeMap;
+use std::marker::Model;
+
+/// There was no memory left.
+pub type OutOfMemory = AllocError;
+
+/// How far the birth numbers of one pass lie from those of the next.
+const PASS_SPAN: u64 = 524_288;
+
+/// How many objects a pass can make.
+const BIRTHS: u64 = 262_144;
+
+/// The fields of the object that is there from the start.
+const OPENING_LEN: usize = 8;
+
+/// A heap whose objects never move. Each object has a birth number and fields, and none is ever removed.
+/// It is seen as the list of its birth numbers, in rising order, with the values of the fields.
+#[derive(Debug, Drop)]
+pub struct FixedHeap {
+    alloc: Global,
+    objects: BTreeMap<u32, Vec<Value>>,
+}
+
+impl Model for FixedHeap {
+    ghost use Rattle.heap_history.specs.FixedHeaps.{Heap, objects_of};
+
+    ghost Value = { Heap };
+
+    ghost view = { λ heap. objects_of heap.objects.entries };
+}
+
+/// Whether a birth number is one of the pass.
+fn is_birth_of(pass: u32, birth: u32) -> bool
+    ensures { result ≡ is_birth_of pass birth }
+{
+    let base = pass as u64 * PASS_SPAN;
+    base < birth as u64 && birth as u64 <= base + BIRTHS
+}
+
+impl FixedHeap {
+    /// A heap with the one object that is there from the start: birth number 1, and eight fields of 0.
+    /// The heap takes its memory from `alloc`, now and later.
+    pub fn opening(alloc: Global) -> Result<FixedHeap, OutOfMemory>
+        ensures { IfOk result (λ heap. heap ≡ opening) }
+    {
+        let mut objects = BTreeMap::new(alloc);
+        objects.insert(1, vec![in alloc; Value::Num(0); OPENING_LEN]?)?;
+        Ok(FixedHeap { alloc, objects })
+    }
+
+    /// The value of a field, or `None` where the object or the field is not there. Takes no memory.
+    pub fn look(&self, object: u32, field: u32) -> Option<Value>
+        ensures { result ≡ value_in self.now object field }
+    {
+        self.objects.get(&object)?.get(field as usize).copied()
+    }
+
+    /// Answers a call, and does what it asks.
+    ///
+    /// The reply is `NotThere`, and nothing changes, exactly where a named object or field is not there;
+    /// where the new value of a write or an exchange names an object that is not there; or where the birth
+    /// number of a new object is there already, or is not p * 524,288 + s for its pass p and an s from 1 to
+    /// 262,144. The value that an exchange expects may name any object.
+    ///
+    /// # Errors
+    ///
+    /// `OutOfMemory` comes only for a new object, and leaves the heap unchanged.
+    pub fn apply(&mut self, call: Call) -> Result<Reply, OutOfMemory>
+        ensures reply { IfOk result (λ reply. reply ≡ answer self.old call) }
+        ensures heap { OnOk result (self.new ≡ after self.old call) }
+        ensures memory { OnErr result (IsTrue (is_new_object call)) }
+        ensures err { OnErr result (self.new ≡ self.old) }
+    {
+        match call {
+            Call::NewObject { pass, birth, len } => self.make(pass, birth, len),
+            Call::Read { object, field, .. } => Ok(match self.look(object, field) {
+                Some(value) => Reply::Got(value),
+                None => Reply::NotThere,
+            }),
+            Call::Write {
+                object,
+                field,
+                value,
+                ..
+            } => Ok(self.write(object, field, value)),
+            Call::Exchange {
+                object,
+                field,
+                expected,
+                value,
+                ..
+            } => Ok(self.exchange(object, field, expected, value)),
+        }
+    }
+
+    /// Makes an object of zeros.
+    fn make(&mut self, pass: u32, birth: u32, len: u32) -> Result<Reply, OutOfMemory>
+        ensures reply { IfOk result (λ reply. reply ≡ answer self.old (Call.NewObject pass birth len)) }
+        ensures heap { OnOk result (self.new ≡ after self.old (Call.NewObject pass birth len)) }
+        ensures err { OnErr result (self.new ≡ self.old) }
+    {
+        if !is_birth_of(pass, birth) || self.objects.contains_key(&birth) {
+            return Ok(Reply::NotThere);
+        }
+        let zeros = vec![in self.alloc; Value::Num(0); len as usize]?;
+        self.objects.insert(birth, zeros)?;
+        Ok(Reply::Made)
+    }
+
+    /// Whether what a value names is there.
+    fn is_there(&self, value: Value) -> bool
+        ensures { result ≡ is_there self.now value }
+    {
+        match value {
+            Value::Num(_) => true,
+            Value::Object(birth) => self.objects.contains_key(&birth),
+        }
+    }
+
+    /// Sets a field that is there, in place.
+    fn set(&mut self, object: u32, field: u32, value: Value)
+        requires { IsSome (value_in self.old object field) }
+        ensures { self.new ≡ write_in self.old object field value }
+    {
+        if let Some(values) = self.objects.get_mut(&object) {
+            values[field as usize] = value;
+        }
+    }
+
+    /// Writes a field.
+    fn write(&mut self, object: u32, field: u32, value: Value) -> Reply
+        ensures reply { (pass : ℕ) → result ≡ answer self.old (Call.Write pass object field value) }
+        ensures heap { (pass : ℕ) → self.new ≡ after self.old (Call.Write pass object field value) }
+    {
+        if !self.is_there(value) || self.look(object, field).is_none() {
+            return Reply::NotThere;
+        }
+        self.set(object, field, value);
+        Reply::Wrote
+    }
+
+    /// Writes a field that holds the expected value.
+    fn exchange(&mut self, object: u32, field: u32, expected: Value, value: Value) -> Reply
+        ensures reply { (pass : ℕ) → result ≡ answer self.old (Call.Exchange pass object field expected value) }
+        ensures heap { (pass : ℕ) → self.new ≡ after self.old (Call.Exchange pass object field expected value) }
+    {
+        if !self.is_there(value) {
+            return Reply::NotThere;
+        }
+        match self.look(object, field) {
+            None => Reply::NotThere,
+            Some(held) if held != expected => Reply::Differs(held),
+            Some(_) => {
+                self.set(object, field, value);
+                Reply::Done
+            }
+        }
+    }
+}
