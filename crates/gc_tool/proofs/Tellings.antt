@@ -1,7 +1,9 @@
 -- One more answer, and one more entry.
-use Rattle.std.proofs.Common.{◌≡◌, ◌≢◌, ℕ, zero, suc, ◌+◌, ◌<◌, ◌≤◌, List, [], ◌∷◌, ◌++◌, length, get_or, set, take, map, true, false, Option, Some, None, refl, sym, ap, ◌∙◌, subst, arith, length-append}
+use Rattle.std.proofs.Common.{◌≡◌, ◌≢◌, ℕ, zero, suc, ◌+◌, ◌<◌, ◌≤◌, List, [], ◌∷◌, ◌++◌, length, get_or, set, take, map, true, false, Option, Some, None, refl, sym, ap, ◌∙◌, subst, arith, length-append, add-one}
 use Rattle.std.specs.Prelude.{slice_get, IsTrue}
+use Rattle.std.specs.List.{All}
 use Rattle.std.proofs.lemmas.List.{append-nil, map-append}
+use Rattle.std.proofs.lemmas.List.Elements.{All-from_recursion, All-append}
 use Rattle.heap_words.specs.declared.field_word.FieldWord.{FieldWord}
 use Rattle.heap_history.specs.declared.call.Call.{Call}
 use Rattle.heap_history.specs.declared.call.Reply.{Reply}
@@ -54,16 +56,22 @@ run_grows quota thread h more s (d ∷ cs) (b ∷ answers) (m ∷ ns) last seen 
 
 -- ---- the lines so far
 
-taken_push : (lines : List Line) (k : ℕ) (line : Line) → slice_get lines k ≡ Some line → take (k + 1) lines ≡ take k lines ++ line ∷ []
+taken_push : (lines : List Line) (k : ℕ) (line : Line) → slice_get lines k ≡ Some line → take (suc k) lines ≡ take k lines ++ line ∷ []
 taken_push [] k line e = absurd cc
 taken_push (l ∷ lines) zero line e = let h : l ≡ line = cc in ap (λ x. x ∷ []) h
 taken_push (l ∷ lines) (suc k) line e = ap (λ xs. l ∷ xs) (taken_push lines k line e)
 
 commands_push : (lines : List Line) (k thread : ℕ) (c : Command) → slice_get lines k ≡ Some (record { thread = thread; command = c }) → commands_in (take (k + 1) lines) ≡ commands_in (take k lines) ++ c ∷ []
 commands_push lines k thread c e =
-    ap commands_in (taken_push lines k (record { thread = thread; command = c }) e) ∙ map-append (λ l. l.command) (take k lines) (record { thread = thread; command = c } ∷ [])
+    ap (λ n. commands_in (take n lines)) (add-one k) ∙ ap commands_in (taken_push lines k (record { thread = thread; command = c }) e) ∙ map-append (λ l. l.command) (take k lines) (record { thread = thread; command = c } ∷ [])
 
 -- ---- one command told
+
+none_own : All (λ x. pass_of x ≡ 1) []
+none_own = All-from_recursion (λ x. pass_of x ≡ 1) [] tt
+
+one_own : (call : Call) → pass_of call ≡ 1 → All (λ x. pass_of x ≡ 1) (call ∷ [])
+one_own call own = All-from_recursion (λ x. pass_of x ≡ 1) (call ∷ []) (own, tt)
 
 module _ (quota made : ℕ) (registers : List FieldWord) (lines : List Line) (answers : List Answer) (entries : List Entry) (t : Tells quota made registers lines answers entries)
     (c : Command) (at : IsCommand lines answers c) (a : Answer) where
@@ -75,11 +83,11 @@ module _ (quota made : ℕ) (registers : List FieldWord) (lines : List Line) (an
   pub heap_seen : heap_at h t.seat.seen ≡ heap_of entries
   heap_seen = ap (heap_at h) t.seen_is ∙ heap_at-length h
 
-  told : (made' : ℕ) (registers' : List FieldWord) (entries' : List Entry) (more : List Call) → changes entries' ≡ h ++ more → IsAccepted opening entries'
+  told : (made' : ℕ) (registers' : List FieldWord) (entries' : List Entry) (more : List Call) → changes entries' ≡ h ++ more → All (λ x. pass_of x ≡ 1) more → IsAccepted opening entries'
       → IsAnswered quota 1 (h ++ more) t.seat c a (length (h ++ more))
       → registers_after t.seat c a ≡ map value_of registers' → length (lens_after t.seat c a) ≡ made'
       → Tells quota made' registers' lines (answers ++ a ∷ []) entries'
-  told made' registers' entries' more same accepted answered regs lens =
+  told made' registers' entries' more same own accepted answered regs lens =
       let len : length (answers ++ a ∷ []) ≡ length answers + 1 = length-append answers (a ∷ []) in
       let cs : commands_in (take (length (answers ++ a ∷ [])) lines) ≡ commands_in (take (length answers) lines) ++ c ∷ [] =
           ap (λ k. commands_in (take k lines)) len ∙ commands_push lines (length answers) at.0 c at.1 in
@@ -91,6 +99,7 @@ module _ (quota made : ℕ) (registers : List FieldWord) (lines : List Line) (an
       let Q : List Call → Type 0 = λ x. IsRun quota 1 x first_seat (commands_in (take (length (answers ++ a ∷ [])) lines)) (answers ++ a ∷ []) fronts last in
       record {
         accepted = accepted;
+        own = subst (All (λ x. pass_of x ≡ 1)) (sym same) (All-append (λ x. pass_of x ≡ 1) h more t.own own);
         fronts = fronts;
         seat = last;
         run = subst Q (sym same) (subst P (sym cs) pushed);
@@ -107,7 +116,7 @@ module _ (quota made : ℕ) (registers : List FieldWord) (lines : List Line) (an
       let Q : Option Call → Type 0 = λ o. IsOutcome quota 1 h t.seat c a (length h) o in
       let answered : IsAnswered quota 1 h t.seat c a (length h) = subst Q (sym none) (sym t.seen_is, subst P (sym heap_seen) no_call) in
       let R : List Call → Type 0 = λ x. IsAnswered quota 1 x t.seat c a (length x) in
-      told made registers entries [] (sym (append-nil h)) t.accepted (subst R (sym (append-nil h)) answered) regs lens
+      told made registers entries [] (sym (append-nil h)) none_own t.accepted (subst R (sym (append-nil h)) answered) regs lens
 
   -- the entries with one more
   accepted_push : (call : Call) (reply : Reply) → answer (heap_of entries) call ≡ reply → reply ≢ NotThere → IsAccepted opening (entries ++ record { call = call; reply = reply } ∷ [])
@@ -125,7 +134,7 @@ module _ (quota made : ℕ) (registers : List FieldWord) (lines : List Line) (an
       let R : List Call → Type 0 = λ x. IsAnswered quota 1 x t.seat c a (length x) in
       let same : changes (entries ++ record { call = call; reply = reply_of a } ∷ []) ≡ h ++ [] =
           changes-append entries (record { call = call; reply = reply_of a }) ∙ rw look refl in
-      told made registers' _ [] same (accepted_push call (reply_of a) said there) (subst R (sym (append-nil h)) answered) regs lens
+      told made registers' _ [] same none_own (accepted_push call (reply_of a) said there) (subst R (sym (append-nil h)) answered) regs lens
 
   -- the command was a change
   pub tells_change : (call : Call) (made' : ℕ) (registers' : List FieldWord) → call_of 1 t.seat c a ≡ Some call → IsNumbered 1 t.seat a → is_change (reply_of a) ≡ true → pass_of call ≡ 1
@@ -140,4 +149,4 @@ module _ (quota made : ℕ) (registers : List FieldWord) (lines : List Line) (an
       let answered : IsAnswered quota 1 (h ++ call ∷ []) t.seat c a (length (h ++ call ∷ [])) = subst Q (sym some) (numbered, next) in
       let same : changes (entries ++ record { call = call; reply = reply_of a } ∷ []) ≡ h ++ call ∷ [] =
           changes-append entries (record { call = call; reply = reply_of a }) ∙ rw change refl in
-      told made' registers' _ (call ∷ []) same (accepted_push call (reply_of a) said there) answered regs lens
+      told made' registers' _ (call ∷ []) same (one_own call own) (accepted_push call (reply_of a) said there) answered regs lens

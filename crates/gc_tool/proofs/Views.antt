@@ -51,22 +51,29 @@ module _ (m : ℕ → ℕ) (l : Sizes) (il : IsLayout l) (used made : ℕ) (v : 
       omega (arith, at, len, before_base l il)
   object_below b (inr own) = laid.below b own
 
+  -- an object lies in the regions
+  pub object_above : (b : ℕ) → IsObject made b → first_word l 0 ≤ v.at b
+  object_above b (inl e) = omega (arith, ap v.at e, laid.common_at)
+  object_above b (inr own) = omega (arith, before_base l il, laid.above b own)
+
   -- no object is longer than 30 fields
   pub object_short : (b : ℕ) → IsObject made b → len_of v b ≤ 30
   object_short b (inl e) = let len : len_of v b ≡ 8 = ap (len_of v) e ∙ laid.common_len in omega (arith, len)
   object_short b (inr own) = laid.short b own
 
--- the same words in another memory
-pub laid_same : (m n : ℕ → ℕ) (l : Sizes) (used made : ℕ) (v : View) → ((a : ℕ) → n a ≡ m a) → Laid m l used made v → Laid n l used made v
-laid_same m n l used made v same laid = record {
-  stands = λ b h. record { header = same (v.at b) ∙ (laid.stands b h).header; words = λ f k. same (v.at b + 1 + f) ∙ (laid.stands b h).words f k };
+-- the same words from the first region on, in another memory
+pub laid_same : (m n : ℕ → ℕ) (l : Sizes) (il : IsLayout l) (used made : ℕ) (v : View) → ((a : ℕ) → first_word l 0 ≤ a → n a ≡ m a) → Laid m l used made v → Laid n l used made v
+laid_same m n l il used made v same laid = record {
+  stands = λ b h.
+      let low = object_above m l il used made v laid b h in
+      record { header = same (v.at b) low ∙ (laid.stands b h).header; words = λ f k. same (v.at b + 1 + f) (omega (arith, low)) ∙ (laid.stands b h).words f k };
   common_at = laid.common_at;
   common_len = laid.common_len;
   above = laid.above;
   below = laid.below;
   apart = laid.apart;
   short = laid.short;
-  clear = λ i h k. same (base l + i) ∙ laid.clear i h k;
+  clear = λ i h k. same (base l + i) (omega (arith, before_base l il)) ∙ laid.clear i h k;
   within = laid.within;
 }
 

@@ -7,7 +7,7 @@ use Rattle.heap_words.specs.declared.operand.Operand.{Operand}
 use Rattle.heap_words.specs.declared.field_word.FieldWord.{FieldWord}
 use Rattle.heap_words.specs.declared.field_word.FieldWord.TheVariants.{Num, Link}
 use Rattle.heap_history.specs.FixedHeaps.{Heap, fields_of, opening}
-use Rattle.heap_history.specs.Histories.{IsAccepted, changes, heap_after}
+use Rattle.heap_history.specs.Histories.{IsAccepted, changes, heap_after, pass_of}
 use Rattle.heap_history.specs.declared.call.Entry.{Entry}
 use Rattle.heap_script.specs.declared.script.Line.{Line}
 use Rattle.heap_script.specs.declared.script.Command.{Command}
@@ -96,6 +96,7 @@ commands_in lines = map (λ l. l.command) lines
 -- at whose end the thread's registers hold what it has read, and all changes were seen.
 pub record Tells (quota made : ℕ) (registers : List FieldWord) (lines : List Line) (answers : List Answer) (entries : List Entry) : Type 0 where
   pub accepted : IsAccepted opening entries
+  pub own : All (λ c. pass_of c ≡ 1) (changes entries)
   pub fronts : List ℕ
   pub seat : Seat
   pub run : IsRun quota 1 (changes entries) first_seat (commands_in (take (length answers) lines)) answers fronts seat
