@@ -7,15 +7,8 @@ use crate::step::Step;
 use std::alloc::{AllocError, Global};
 use std::marker::Model;
 
-/// There was no memory for the words.
-#[derive(Clone, Copy, Debug, PartialEq, Eq)]
-pub struct OutOfMemory;
-
-impl From<AllocError> for OutOfMemory {
-    fn from(_failed: AllocError) -> OutOfMemory {
-        OutOfMemory
-    }
-}
+/// There was no memory.
+pub type OutOfMemory = AllocError;
 
 /// A fixed number of words, below 2^32, at the addresses from 0 on. Contracts see the list of them.
 #[derive(Debug, Drop)]

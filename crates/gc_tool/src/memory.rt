@@ -6,12 +6,9 @@ ghost use Rattle.gc_tool.specs.Outside.{Rose};
 
 use crate::sink::{Sink, SinkFailed};
 use crate::source::{Source, SourceFailed};
+use call_steps::OutOfMemory;
 use std::alloc::Global;
 use std::marker::Model;
-
-/// Memory ran out.
-#[derive(Clone, Copy, Debug, PartialEq, Eq)]
-pub struct OutOfMemory;
 
 // Whether the call with this number is one of those listed.
 fn is_listed(calls: &[u32], number: u64) -> bool
@@ -137,7 +134,7 @@ impl MemorySink {
         requires { 1 ≤ piece }
         ensures { IfOk result (λ sink. sink ≡ record { held = []; room = room; piece = piece; fails = fails.items; calls = 0; faults = 0 }) }
     {
-        let held = Vec::with_capacity(alloc, room).map_err(|_| OutOfMemory)?;
+        let held = Vec::with_capacity(alloc, room)?;
         Ok(MemorySink {
             held,
             room,

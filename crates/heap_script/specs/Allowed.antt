@@ -1,5 +1,5 @@
 -- Which answers a script may be given, for a history of a heap whose objects never move.
-use Rattle.std.specs.Prelude.{◌≡◌, ◌≢◌, ℕ, ◌+◌, ◌*◌, ◌<◌, ◌≤◌, ◌==◌, List, [], ◌∷◌, ◌++◌, length, map, drop, Option, Some, None, option_map, slice_index_or, slice_set, replicate}
+use Rattle.std.specs.Prelude.{◌≡◌, ℕ, ◌+◌, ◌*◌, ◌<◌, ◌≤◌, ◌==◌, List, [], ◌∷◌, ◌++◌, length, map, drop, Option, Some, None, option_map, slice_index_or, slice_set, replicate}
 use Rattle.std.specs.List.{filter, All}
 use Rattle.heap_words.specs.declared.operand.Operand.{Operand}
 use Rattle.heap_words.specs.declared.operand.Operand.TheVariants as operands
@@ -11,7 +11,7 @@ use Rattle.heap_history.specs.declared.call.Call.TheVariants as calls
 use Rattle.heap_history.specs.declared.call.Reply.{Reply}
 use Rattle.heap_history.specs.declared.call.Reply.TheVariants as replies
 use Rattle.heap_history.specs.FixedHeaps.{Heap, fields_of}
-use Rattle.heap_history.specs.Histories.{Ended, IsNext, pass_of, heap_at, made_by}
+use Rattle.heap_history.specs.Histories.{IsNext, pass_of, heap_at, made_by}
 use Rattle.heap_script.specs.declared.script.Command.{Command}
 use Rattle.heap_script.specs.declared.script.Command.TheVariants.{New, Get, Put, Cas, Copy, Drop, Poll}
 use Rattle.heap_script.specs.declared.script.Line.{Line}
@@ -120,7 +120,7 @@ seat_after seat command answer n = record { registers = registers_after seat com
 abbrev pub IsRun : ℕ → ℕ → List Call → Seat → List Command → List Answer → List ℕ → Seat → Type 0
 IsRun quota thread history seat [] [] [] last = seat ≡ last
 IsRun quota thread history seat (c ∷ cs) (a ∷ rest) (n ∷ ns) last =
-  IsAnswered quota thread history seat c a n × IsRun quota thread history (seat_after seat c a n) cs rest ns last
+    IsAnswered quota thread history seat c a n × IsRun quota thread history (seat_after seat c a n) cs rest ns last
 IsRun quota thread history seat _ _ _ last = ⊥
 
 abbrev pub commands_of : ℕ → List Line → List Command
@@ -137,7 +137,7 @@ pub record IsAllowedThread (quota thread : ℕ) (history : List Call) (commands 
 abbrev pub AllAllowed : ℕ → List Call → List Line → ℕ → List (List Answer) → Type 0
 AllAllowed quota history lines thread [] = Unit {0}
 AllAllowed quota history lines thread (first ∷ later) =
-  IsAllowedThread quota thread history (commands_of thread lines) first × AllAllowed quota history lines (thread + 1) later
+    IsAllowedThread quota thread history (commands_of thread lines) first × AllAllowed quota history lines (thread + 1) later
 
 -- The answers of all threads: a list for each, and no change is made by anybody else.
 pub record IsAllowed (script : Reading) (history : List Call) (answers : List (List Answer)) : Type 0 where

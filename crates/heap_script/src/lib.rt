@@ -30,7 +30,8 @@ mod script;
 mod words;
 
 pub use answer::{Answer, Answers};
-pub use fault::{FaultKind, OutOfMemory, ReadScriptFault};
+pub use fault::{FaultKind, ReadScriptFault};
+pub use heap_history::OutOfMemory;
 pub use printing::print_script;
 pub use reading::read_script;
 pub use script::{Command, Line, Script};

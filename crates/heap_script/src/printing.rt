@@ -6,8 +6,8 @@ ghost use Rattle.heap_script.specs.Scripts.{OperandFits, CommandFits, Fits};
 ghost use Rattle.heap_script.specs.Grammar.{script_of};
 ghost use Rattle.heap_script.specs.Text.{letter, place_word, operand_word, command_words, heading_words, later_words, line_words, line_text, text_of};
 
-use crate::fault::OutOfMemory;
 use crate::script::{Command, Line, Script};
+use heap_history::OutOfMemory;
 use heap_words::{Layout, Operand};
 use itoa::Buffer;
 use std::alloc::{AllocError, Global};
