@@ -1,2 +1,4 @@
+pub mod Ends
 pub mod Known
+pub mod Turning
 pub mod Views
