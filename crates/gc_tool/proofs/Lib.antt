@@ -1,4 +1,5 @@
 pub mod Ends
+pub mod Headline
 pub mod Known
 pub mod Turning
 pub mod Views

@@ -1,0 +1,79 @@
+-- What a replay comes to, and what a call of the program says of the outside.
+use Rattle.std.specs.Prelude.{◌≡◌, ℕ, ◌*◌, ◌≤◌, Bool, true, false, List, [], ◌∷◌, length, Option, Some}
+use Rattle.heap_history.specs.declared.call.Entry.{Entry}
+use Rattle.heap_history.specs.FixedHeaps.{opening}
+use Rattle.heap_history.specs.Histories.{IsAccepted, changes}
+use Rattle.heap_script.specs.declared.answer.Answer.{Answer}
+use Rattle.heap_script.specs.Scripts.{Reading}
+use Rattle.heap_script.specs.Text.{text_of}
+use Rattle.heap_script.specs.Allowed.{IsAllowed}
+use Rattle.gc_tool.specs.declared.world.World.{World}
+use Rattle.gc_tool.specs.Worlds.{turns, is_over, opening_world}
+use Rattle.gc_tool.specs.Texts.{replay_text}
+use Rattle.gc_tool.specs.Forms.{steps_of, IsBuilt, IsInput}
+use Rattle.gc_tool.specs.Outside.{ReadsAll}
+
+-- ---- a replay
+
+-- the world of a script after so many steps
+abbrev pub world_after : Reading → ℕ → World
+world_after script steps = turns steps (opening_world script)
+
+-- the thread of the script ends within so many steps
+abbrev pub ends_within : Reading → ℕ → Bool
+ends_within script steps = is_over (world_after script steps)
+
+-- the text of a world's entries and answers
+abbrev pub text_of_world : World → List ℕ
+text_of_world w = replay_text w.told.entries (w.told.answers ∷ [])
+
+-- A command takes at most four steps: a `new` loads the phase word, loads and claims the region's word and stores the
+-- header, and a `get` or a `put` loads the phase word and the header and steps on the field.
+abbrev pub enough_steps : Reading → ℕ
+enough_steps script = 4 * length script.lines
+
+-- The text tells a legal run of the script: a heap whose objects never move accepts the entries, and the answers are
+-- allowed for the changes among them.
+pub record IsLegal (script : Reading) (text : List ℕ) : Type 0 where
+  pub entries : List Entry
+  pub answers : List Answer
+  pub text_is : text ≡ replay_text entries (answers ∷ [])
+  pub accepted : IsAccepted opening entries
+  pub allowed : IsAllowed script (changes entries) (answers ∷ [])
+
+-- The output of a replay of so many steps: the thread ends within them, and the text is that of its world, and legal.
+pub record IsOutput (script : Reading) (steps : ℕ) (text : List ℕ) : Type 0 where
+  pub ends : ends_within script steps ≡ true
+  pub told : text ≡ text_of_world (world_after script steps)
+  pub legal : IsLegal script text
+
+-- ---- the outside
+
+-- the source was read to its end, and its bytes are the plain text of this script, which the program plays
+pub record ReadsScript (old new : Option (List ℕ)) (script : Reading) : Type 0 where
+  pub built : IsBuilt script
+  pub all : ReadsAll old new (text_of script)
+
+-- the source was read to its end, and its bytes are the plain text of no script that the program plays
+pub record ReadsOther (old new : Option (List ℕ)) : Type 0 where
+  pub bytes : List ℕ
+  pub all : ReadsAll old new bytes
+  pub other : ¬ (IsInput bytes)
+
+-- the words ask for so many steps of the script that was read
+pub record Asks (words : List (List ℕ)) (old new : Option (List ℕ)) (script : Reading) (steps : ℕ) : Type 0 where
+  pub steps_are : steps_of words ≡ Some steps
+  pub read : ReadsScript old new script
+
+-- this text is the output of the replay for which the words and the source ask
+pub record Gives (words : List (List ℕ)) (old new : Option (List ℕ)) (text : List ℕ) : Type 0 where
+  pub script : Reading
+  pub steps : ℕ
+  pub asked : Asks words old new script steps
+  pub output : IsOutput script steps text
+
+-- the source tells the plain text of this script, which the program plays, and it is no longer than an input may be
+pub record Brings (left : Option (List ℕ)) (script : Reading) : Type 0 where
+  pub built : IsBuilt script
+  pub told : left ≡ Some (text_of script)
+  pub short : length (text_of script) ≤ 1048576
