@@ -19,9 +19,16 @@ use Rattle.gc_tool.specs.declared.new_object.Room.{Room}
 use Rattle.gc_tool.specs.declared.doing.Doing.{Doing}
 use Rattle.gc_tool.specs.declared.doing.Doing.TheVariants as doing
 use Rattle.gc_tool.specs.declared.world.World.{World}
-use Rattle.gc_tool.specs.Worlds.{is_done, is_over}
+use Rattle.gc_tool.specs.declared.thread.Settled.{Settled}
+use Rattle.gc_tool.specs.declared.thread.Settled.TheVariants as settled
+use Rattle.gc_tool.specs.Threads.{settled_of}
+use Rattle.gc_tool.specs.Worlds.{turns, is_done, is_over, stepped, taken_in, settled_at, opening_world}
+use Rattle.gc_tool.specs.Texts.{replay_text}
 use Rattle.gc_tool.specs.Forms.{IsBuilt}
-use Rattle.gc_tool.specs.Lawful.{Lawful, Tells, View, IsAt, commands_in}
+use Rattle.gc_tool.specs.Lawful.{Lawful, View, IsAt, commands_in}
+use Rattle.gc_tool.specs.Runs.{world_after, ends_within, text_of_world, IsLegal, IsOutput}
+use Rattle.gc_tool.proofs.Turning.{opening_lawful, turn_keeps}
+use Rattle.gc_tool.proofs.Ends.{turns_keep, entries_own}
 
 -- ---- the only thread
 
@@ -68,3 +75,49 @@ allowed-over w lawful over own =
       count = sym passes;
       threads = (record { fronts = tells.fronts; last = tells.seat; run = subst P same tells.run; rest = ap (made_by 1) none }, tt);
     }
+
+-- ---- the output
+
+taken-script : (w : World) (s : Settled) → (taken_in w s).script ≡ w.script
+taken-script w (settled.Going thread) = refl
+taken-script w (settled.Answered thread answer entry) = refl
+
+settled-script : (w : World) (o : Option Line) → (settled_at w o).script ≡ w.script
+settled-script w None = refl
+settled-script w (Some line) = taken-script w (settled_of w.script.layout line.command w.thread)
+
+-- all turns play one script
+script-after : (script : Reading) (steps : ℕ) → (world_after script steps).script ≡ script
+script-after script steps =
+    turns_keep (λ w. w.script ≡ script) (λ w same on. settled-script (stepped w) (slice_get w.script.lines (length w.told.answers)) ∙ same) steps (opening_world script) refl
+
+-- turns keep the world lawful
+pub lawful-after : (script : Reading) (steps : ℕ) → IsBuilt script → Lawful (world_after script steps)
+lawful-after script steps built = turns_keep Lawful turn_keeps steps (opening_world script) (opening_lawful script built)
+
+-- the text of a world whose thread has ended is the output of the replay
+pub is_output : (script : Reading) (steps : ℕ) → IsBuilt script → ends_within script steps ≡ true → IsOutput script steps (text_of_world (world_after script steps))
+is_output script steps built ends =
+    let w = world_after script steps in
+    let lawful = lawful-after script steps built in
+    record {
+      ends = ends;
+      told = refl;
+      legal = record {
+        entries = w.told.entries;
+        answers = w.told.answers;
+        text_is = refl;
+        accepted = lawful.tells.accepted;
+        allowed = subst (λ (s : Reading). IsAllowed s (changes w.told.entries) (w.told.answers ∷ [])) (script-after script steps) (allowed-over w lawful ends (entries_own script steps));
+      };
+    }
+
+-- what is printed of a world that has played the script to its end
+pub printed_output : (script : Reading) (steps : ℕ) (built : IsBuilt script) (before after : World) (entries : List Entry) (answers : List Answer) (text : List ℕ)
+    → before ≡ opening_world script → after ≡ turns steps before → is_over after ≡ true → entries ≡ after.told.entries → answers ≡ after.told.answers → text ≡ replay_text entries (answers ∷ [])
+    → IsOutput script steps text
+printed_output script steps built before after entries answers text first taken over entries_are answers_are printed =
+    let same : after ≡ world_after script steps = taken ∙ ap (turns steps) first in
+    let told : text ≡ text_of_world (world_after script steps) =
+        printed ∙ ap (λ xs. replay_text xs (answers ∷ [])) entries_are ∙ ap (λ xs. replay_text after.told.entries (xs ∷ [])) answers_are ∙ ap text_of_world same in
+    subst (IsOutput script steps) (sym told) (is_output script steps built (sym (ap is_over same) ∙ over))

@@ -7,11 +7,13 @@ use Rattle.heap_script.specs.declared.answer.Answer.{Answer}
 use Rattle.heap_script.specs.Scripts.{Reading}
 use Rattle.heap_script.specs.Text.{text_of}
 use Rattle.heap_script.specs.Allowed.{IsAllowed}
+use Rattle.gc_tool.specs.declared.status.Status.{Status}
+use Rattle.gc_tool.specs.declared.status.Status.TheVariants.{Done, ReadFault, TooLong, WriteFault, StepsSpent, OutOfMemory, NotBuilt}
 use Rattle.gc_tool.specs.declared.world.World.{World}
 use Rattle.gc_tool.specs.Worlds.{turns, is_over, opening_world}
 use Rattle.gc_tool.specs.Texts.{replay_text}
 use Rattle.gc_tool.specs.Forms.{steps_of, IsBuilt, IsInput}
-use Rattle.gc_tool.specs.Outside.{ReadsAll}
+use Rattle.gc_tool.specs.Outside.{ReadsAll, Rose}
 
 -- ---- a replay
 
@@ -47,6 +49,12 @@ pub record IsOutput (script : Reading) (steps : ℕ) (text : List ℕ) : Type 0 
   pub told : text ≡ text_of_world (world_after script steps)
   pub legal : IsLegal script text
 
+-- why a replay of so many steps has no output: they were spent, and the thread has not ended; or memory ran out
+abbrev pub IsStop : Reading → ℕ → Status → Type 0
+IsStop script steps (StepsSpent n) = (n ≡ steps) × (ends_within script steps ≡ false)
+IsStop script steps OutOfMemory = Unit {0}
+IsStop script steps _ = ⊥
+
 -- ---- the outside
 
 -- the source was read to its end, and its bytes are the plain text of this script, which the program plays
@@ -77,3 +85,15 @@ pub record Brings (left : Option (List ℕ)) (script : Reading) : Type 0 where
   pub built : IsBuilt script
   pub told : left ≡ Some (text_of script)
   pub short : length (text_of script) ≤ 1048576
+
+-- ---- why there is no output
+
+-- The cause of a status with which nothing is written.
+abbrev pub IsCause : Status → Option (List ℕ) → Option (List ℕ) → ℕ → ℕ → ℕ → Type 0
+IsCause ReadFault old new faults_old faults_new steps = Rose faults_old faults_new
+IsCause (StepsSpent n) old new faults_old faults_new steps = (n ≡ steps) × (script : Reading) × ReadsScript old new script × (ends_within script steps ≡ false)
+IsCause NotBuilt old new faults_old faults_new steps = ReadsOther old new
+IsCause TooLong old new faults_old faults_new steps = Unit {0}
+IsCause OutOfMemory old new faults_old faults_new steps = Unit {0}
+IsCause Done old new faults_old faults_new steps = ⊥
+IsCause WriteFault old new faults_old faults_new steps = ⊥
