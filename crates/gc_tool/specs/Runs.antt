@@ -1,5 +1,5 @@
 -- What a replay comes to, and what a call of the program says of the outside.
-use Rattle.std.specs.Prelude.{◌≡◌, ℕ, ◌*◌, ◌≤◌, Bool, true, false, List, [], ◌∷◌, length, Option, Some}
+use Rattle.std.specs.Prelude.{◌≡◌, ℕ, ◌*◌, ◌≤◌, Bool, true, false, if◌then◌else◌, List, [], ◌∷◌, length, Option, Some}
 use Rattle.heap_history.specs.declared.call.Entry.{Entry}
 use Rattle.heap_history.specs.FixedHeaps.{opening}
 use Rattle.heap_history.specs.Histories.{IsAccepted, changes}
@@ -68,27 +68,8 @@ pub record ReadsOther (old new : Option (List ℕ)) : Type 0 where
   pub all : ReadsAll old new bytes
   pub other : ¬ (IsInput bytes)
 
--- the words ask for so many steps of the script that was read
-pub record Asks (words : List (List ℕ)) (old new : Option (List ℕ)) (script : Reading) (steps : ℕ) : Type 0 where
-  pub steps_are : steps_of words ≡ Some steps
-  pub read : ReadsScript old new script
-
--- this text is the output of the replay for which the words and the source ask
-pub record Gives (words : List (List ℕ)) (old new : Option (List ℕ)) (text : List ℕ) : Type 0 where
-  pub script : Reading
-  pub steps : ℕ
-  pub asked : Asks words old new script steps
-  pub output : IsOutput script steps text
-
--- the source tells the plain text of this script, which the program plays, and it is no longer than an input may be
-pub record Brings (left : Option (List ℕ)) (script : Reading) : Type 0 where
-  pub built : IsBuilt script
-  pub told : left ≡ Some (text_of script)
-  pub short : length (text_of script) ≤ 1048576
-
--- ---- why there is no output
-
--- The cause of a status with which nothing is written.
+-- The cause of a status with which nothing is written, where so many steps were asked for. What is read is told by the
+-- bytes that the source has left before and after, and its count of faults before and after.
 abbrev pub IsCause : Status → Option (List ℕ) → Option (List ℕ) → ℕ → ℕ → ℕ → Type 0
 IsCause ReadFault old new faults_old faults_new steps = Rose faults_old faults_new
 IsCause (StepsSpent n) old new faults_old faults_new steps = (n ≡ steps) × (script : Reading) × ReadsScript old new script × (ends_within script steps ≡ false)
@@ -97,3 +78,31 @@ IsCause TooLong old new faults_old faults_new steps = Unit {0}
 IsCause OutOfMemory old new faults_old faults_new steps = Unit {0}
 IsCause Done old new faults_old faults_new steps = ⊥
 IsCause WriteFault old new faults_old faults_new steps = ⊥
+
+-- The words ask for a replay of the script that was read to the end of the source, and this text is its output.
+pub record Asks (words : List (List ℕ)) (old new : Option (List ℕ)) (text : List ℕ) : Type 0 where
+  pub script : Reading
+  pub steps : ℕ
+  pub steps_are : steps_of words ≡ Some steps
+  pub read : ReadsScript old new script
+  pub output : IsOutput script steps text
+
+-- The words ask for so many steps of the script that was read to the end of the source, and its thread has not ended
+-- within them.
+pub record Spends (words : List (List ℕ)) (old new : Option (List ℕ)) (steps : ℕ) : Type 0 where
+  pub script : Reading
+  pub steps_are : steps_of words ≡ Some steps
+  pub read : ReadsScript old new script
+  pub on : ends_within script steps ≡ false
+
+-- The words ask for so many steps of this script, which the program plays; the source tells its plain text, which is no
+-- longer than an input may be.
+pub record IsHonest (words : List (List ℕ)) (left : Option (List ℕ)) (script : Reading) (steps : ℕ) : Type 0 where
+  pub steps_are : steps_of words ≡ Some steps
+  pub built : IsBuilt script
+  pub told : left ≡ Some (text_of script)
+  pub short : length (text_of script) ≤ 1048576
+
+-- the status of a replay of so many steps, where nothing fails
+abbrev pub status_after : Reading → ℕ → Status
+status_after script steps = if ends_within script steps then Done else StepsSpent steps
