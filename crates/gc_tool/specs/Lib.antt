@@ -16,3 +16,4 @@ pub mod Statuses
 pub mod Memories
 pub mod Forms
 pub mod Lawful
+pub mod Runs

@@ -4,6 +4,7 @@ ghost use Rattle.std.specs.Prelude.{◌≡◌};
 ghost use Rattle.gc_tool.specs.Statuses.{exit_of, text_of};
 
 use arrayvec::ArrayString;
+use call_steps::OutOfMemory;
 use itoa::Buffer;
 
 /// How a call of the program ended. With any other status than `Done` and `WriteFault` nothing was written.
@@ -23,6 +24,16 @@ pub enum Status {
     OutOfMemory,
     /// The words or the input have a form that the program does not know yet.
     NotBuilt,
+}
+
+impl From<OutOfMemory> for Status {
+    ghost use Rattle.gc_tool.specs.declared.status.Status.TheVariants as statuses;
+
+    ghost from_gives = { λ _ status. status ≡ statuses.OutOfMemory };
+
+    fn from(_failed: OutOfMemory) -> Status {
+        Status::OutOfMemory
+    }
 }
 
 /// The exit status of the program.

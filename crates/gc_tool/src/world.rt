@@ -167,8 +167,16 @@ impl World {
 }
 
 impl World {
+    ghost use Rattle.gc_tool.specs.Worlds.{turns, is_over as is_over_of};
+    ghost use Rattle.gc_tool.specs.Lawful.{Lawful};
+
     /// Takes turns until the thread has ended, at most so many. True where it has ended.
-    pub fn run(&mut self, steps: u64) -> bool {
+    pub fn run(&mut self, steps: u64) -> bool
+        requires { Lawful self.old }
+        ensures taken { self.new ≡ turns steps self.old }
+        ensures over { result ≡ is_over_of self.new }
+        ensures lawful { Lawful self.new }
+    {
         for _ in 0..steps {
             if self.is_over() {
                 return true;
