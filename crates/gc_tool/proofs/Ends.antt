@@ -43,7 +43,8 @@ use Rattle.gc_tool.specs.Worlds.{turns, turn_of, stepped, taken_in, settled_at, 
 use Rattle.gc_tool.specs.Forms.{IsBuilt}
 use Rattle.gc_tool.specs.Lawful.{Lawful}
 use Rattle.gc_tool.specs.Runs.{enough_steps, ends_within}
-use Rattle.gc_tool.proofs.Turning.{opening_lawful, can_turn, turn_keeps}
+use Rattle.gc_tool.proofs.Opening.{opening_lawful}
+use Rattle.gc_tool.proofs.Turning.{can_turn, turn_keeps}
 
 -- ---- turns
 

@@ -27,7 +27,8 @@ use Rattle.gc_tool.specs.Texts.{replay_text}
 use Rattle.gc_tool.specs.Forms.{IsBuilt}
 use Rattle.gc_tool.specs.Lawful.{Lawful, View, IsAt, commands_in}
 use Rattle.gc_tool.specs.Runs.{world_after, ends_within, text_of_world, IsLegal, IsOutput}
-use Rattle.gc_tool.proofs.Turning.{opening_lawful, turn_keeps}
+use Rattle.gc_tool.proofs.Opening.{opening_lawful}
+use Rattle.gc_tool.proofs.Turning.{turn_keeps}
 use Rattle.gc_tool.proofs.Ends.{turns_keep, entries_own}
 
 -- ---- the only thread

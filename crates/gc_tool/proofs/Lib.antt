@@ -1,6 +1,9 @@
 pub mod Causes
 pub mod Ends
+pub mod Facts
 pub mod Headline
 pub mod Known
+pub mod Opening
+pub mod Tellings
 pub mod Turning
 pub mod Views

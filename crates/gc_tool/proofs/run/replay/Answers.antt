@@ -1,7 +1,7 @@
 use Rattle.std.proofs.Common.{◌∙◌, sym, subst}
 use Rattle.gc_tool.specs.Lawful.{Lawful}
 use Rattle.gc_tool.proofs.Headline.{printed_output}
-use Rattle.gc_tool.proofs.Turning.{opening_lawful}
+use Rattle.gc_tool.proofs.Opening.{opening_lawful}
 use Rattle.gc_tool.proofs.run.replay.Goals as goal
 
 pub run-requires : goal.run-requires
