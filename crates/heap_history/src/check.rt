@@ -60,7 +60,8 @@ fn first_bad(alloc: Global, entries: &[Entry]) -> Result<(), CheckFault>
 ///
 /// # Errors
 ///
-/// `BadEntry` is the first entry for which it does not. `OutOfMemory` may come at any new object.
+/// `BadEntry` is the first entry for which it does not. `OutOfMemory` may come at the opening and at any new
+/// object.
 pub fn check_history(alloc: Global, entries: &[Entry]) -> Result<(), CheckFault>
     requires { length entries.now < 2 ^ 31 }
     ensures ok { OnOk result (IsAccepted opening entries.now) }
