@@ -68,7 +68,7 @@ allowed-over w lawful over own =
     let all : length w.told.answers ≡ length lines = answered-all w.script.layout lawful.view w.thread.registers w.thread.room w.thread.made lines w.told.answers w.thread.doing over lawful.at in
     let fits : All (LineFits 1) lines = subst (λ (n : ℕ). All (LineFits n) lines) passes lawful.built.fits.lines in
     let same : commands_in (take (length w.told.answers) lines) ≡ commands_of 1 lines =
-        ap (λ n. commands_in (take n lines)) all ∙ ap commands_in (take-length lines) ∙ sym (commands-one lines fits) in
+    ap (λ n. commands_in (take n lines)) all ∙ ap commands_in (take-length lines) ∙ sym (commands-one lines fits) in
     let P : List Command → Type 0 = λ cs. IsRun w.script.layout.quota 1 (changes w.told.entries) first_seat cs w.told.answers tells.fronts tells.seat in
     let none : drop tells.seat.seen (changes w.told.entries) ≡ [] = ap (λ n. drop n (changes w.told.entries)) tells.seen_is ∙ drop-length (changes w.told.entries) in
     record {
@@ -120,5 +120,5 @@ pub printed_output : (script : Reading) (steps : ℕ) (built : IsBuilt script) (
 printed_output script steps built before after entries answers text first taken over entries_are answers_are printed =
     let same : after ≡ world_after script steps = taken ∙ ap (turns steps) first in
     let told : text ≡ text_of_world (world_after script steps) =
-        printed ∙ ap (λ xs. replay_text xs (answers ∷ [])) entries_are ∙ ap (λ xs. replay_text after.told.entries (xs ∷ [])) answers_are ∙ ap text_of_world same in
+    printed ∙ ap (λ xs. replay_text xs (answers ∷ [])) entries_are ∙ ap (λ xs. replay_text after.told.entries (xs ∷ [])) answers_are ∙ ap text_of_world same in
     subst (IsOutput script steps) (sym told) (is_output script steps built (sym (ap is_over same) ∙ over))

@@ -57,11 +57,11 @@ pub fn run_plain<S: Source, K: Sink>(
     // The output is written whole, or its first bytes are; else nothing is written.
     ensures done { result ≡ Status.Done
         → (text : List ℕ) × Asks (map string_bytes words.now) (S.left source.old) (S.left source.new) text
-            × Appends (K.holds sink.old) (K.holds sink.new) text }
+        × Appends (K.holds sink.old) (K.holds sink.new) text }
     ensures write_fault { result ≡ Status.WriteFault
         → (text : List ℕ) × Asks (map string_bytes words.now) (S.left source.old) (S.left source.new) text
-            × AppendsPrefix (K.holds sink.old) (K.holds sink.new) text
-            × Rose (K.faults sink.old) (K.faults sink.new) }
+        × AppendsPrefix (K.holds sink.old) (K.holds sink.new) text
+        × Rose (K.faults sink.old) (K.faults sink.new) }
     ensures unwritten { result ≢ Status.Done → result ≢ Status.WriteFault → sink.new ≡ sink.old }
 
     // Why there is no output. Words of another form are refused before anything is read.
@@ -104,3 +104,6 @@ pub fn run_plain<S: Source, K: Sink>(
         },
     }
 }
+
+#[cfg(test)]
+mod tests;
