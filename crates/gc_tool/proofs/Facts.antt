@@ -1,20 +1,15 @@
 -- Facts on lists, registers and headers that turns share.
-use Rattle.std.proofs.Common.{◌≡◌, ◌≢◌, ℕ, zero, suc, ◌+◌, ◌*◌, ◌/◌, ◌%◌, ◌^◌, ◌<◌, ◌≤◌, ◌⊎◌, List, [], ◌∷◌, ◌++◌, length, get_or, set, take, drop, map, replicate, cond, Bool, true, false, Option, Some, None, refl, sym, ap, ◌∙◌, subst, arith, lit<, inl, inr, add-one}
-use Rattle.std.specs.Prelude.{slice_get, sum_by, is_some}
+use Rattle.std.proofs.Common.{◌≡◌, ℕ, zero, suc, ◌+◌, ◌<◌, ◌≤◌, List, [], ◌∷◌, length, get_or, drop, map, replicate, Some, refl, sym, ap, ◌∙◌, subst, arith, lit<, add-one}
+use Rattle.std.specs.Prelude.{slice_get, sum_by}
 use Rattle.std.specs.List.{All}
 use Rattle.std.proofs.lemmas.List.Sums.{sum_by-cons}
-use Rattle.std.proofs.lemmas.List.{get_or_past, length-map}
+use Rattle.std.proofs.lemmas.List.{get_or_past}
 use Rattle.std.proofs.Math.Decide.{dec_lt}
 use Rattle.heap_words.specs.declared.field_word.FieldWord.{FieldWord}
-use Rattle.heap_words.specs.declared.field_word.FieldWord.TheVariants.{Num, Link}
-use Rattle.heap_words.specs.declared.operand.Operand.{Operand}
-use Rattle.heap_words.specs.declared.operand.Operand.TheVariants as operands
-use Rattle.heap_words.specs.FieldWords.{IsFieldWord}
-use Rattle.heap_history.specs.declared.call.Value.{Value}
+use Rattle.heap_words.specs.declared.field_word.FieldWord.TheVariants.{Num}
 use Rattle.heap_history.specs.declared.call.Value.TheVariants as values
-use Rattle.heap_script.specs.declared.script.Line.{Line}
 use Rattle.gc_tool.specs.Headers.{plain_header, len_in}
-use Rattle.gc_tool.specs.Threads.{value_of, held, meant}
+use Rattle.gc_tool.specs.Threads.{value_of, held}
 use Rattle.gc_tool.specs.Lawful.{View, Holds}
 
 -- ---- lists

@@ -1,21 +1,18 @@
 -- The opening world is lawful.
-use Rattle.std.proofs.Common.{◌≡◌, ◌≢◌, ℕ, zero, suc, ◌+◌, ◌<◌, ◌≤◌, ◌⊎◌, List, [], ◌∷◌, ◌++◌, length, get_or, set, take, drop, map, replicate, cond, true, false, Option, Some, None, refl, sym, ap, ◌∙◌, subst, arith, lit<, lit≤, inl, inr, length-set, get_or-set_same, get_or-set_other}
+use Rattle.std.proofs.Common.{◌≡◌, ◌≢◌, ℕ, ◌+◌, ◌<◌, List, [], ◌∷◌, ◌++◌, length, set, replicate, Some, None, refl, sym, ap, ◌∙◌, subst, arith, lit<, lit≤, inl, inr, length-set}
 use Rattle.std.specs.List.{All}
 use Rattle.std.specs.Ordering.{nat_cmp}
 use Rattle.std.specs.Cmp.{nat_cmp_is}
 use Rattle.std.specs.declared.cmp.Ordering.TheVariants.{Greater}
 use Rattle.std.proofs.lemmas.List.{length-replicate, get_or-replicate}
 use Rattle.std.proofs.lemmas.List.Elements.{All-from_recursion}
-use Rattle.std.proofs.lemmas.Bool.Decides.{eqb_tells}
 use Rattle.std.proofs.Math.Nat.{mul-le-mul_left}
-use Rattle.heap_words.specs.Layouts.{Sizes, IsLayout, first_word, region_at, words_of, regions_of}
+use Rattle.heap_words.specs.Layouts.{Sizes, IsLayout, first_word, region_at, words_of}
 use Rattle.heap_words.specs.FieldWords.{word_of}
-use Rattle.heap_words.specs.declared.field_word.FieldWord.{FieldWord}
 use Rattle.heap_words.specs.declared.field_word.FieldWord.TheVariants.{Num, Link}
 use Rattle.heap_history.specs.declared.call.Call.{Call}
 use Rattle.heap_history.specs.Histories.{pass_of}
 use Rattle.heap_history.specs.FixedHeaps.{opening, fields_of}
-use Rattle.heap_history.specs.declared.call.Value.{Value}
 use Rattle.heap_history.specs.declared.call.Value.TheVariants as values
 use Rattle.heap_script.specs.Scripts.{Reading}
 use Rattle.heap_script.specs.Allowed.{first_seat}
@@ -23,9 +20,9 @@ use Rattle.call_steps.specs.StepLaws.{reading, Put, Put-set}
 use Rattle.gc_tool.specs.Headers.{plain_header}
 use Rattle.gc_tool.specs.Forms.{IsBuilt}
 use Rattle.gc_tool.specs.NewObjects.{first_region}
-use Rattle.gc_tool.specs.Openings.{opening_words, machine_after}
+use Rattle.gc_tool.specs.Openings.{opening_words}
 use Rattle.gc_tool.specs.Worlds.{opening_world}
-use Rattle.gc_tool.specs.Lawful.{Lawful, View, Stands, Laid, Holds, IsObject, IsOwn, base}
+use Rattle.gc_tool.specs.Lawful.{Lawful, View, Stands, Laid, Holds, IsOwn, base}
 use Rattle.gc_tool.proofs.Views.{before_base}
 use Rattle.gc_tool.proofs.Turning.{next_is_at, next_unclaimed, zeros_hold}
 
@@ -39,6 +36,7 @@ first_view l = record { at = λ b. first_word l 0; fields = λ b. replicate 8 (N
 module _ (l : Sizes) (il : IsLayout l) where
   abbrev zeros : List ℕ
   zeros = replicate (words_of l) 0
+
   abbrev filled : List ℕ
   filled = set zeros (region_at l 0) 2
 
@@ -97,7 +95,7 @@ fresh_at b above =
 registers_hold : (l : Sizes) → All (Holds 0 (first_view l)) (replicate 7 (Num 0) ++ Link 1 (first_word l 0) ∷ [])
 registers_hold l =
     All-from_recursion (Holds 0 (first_view l)) (replicate 7 (Num 0) ++ Link 1 (first_word l 0) ∷ [])
-      (lit< tt, (lit< tt, (lit< tt, (lit< tt, (lit< tt, (lit< tt, (lit< tt, ((inl refl, refl), tt))))))))
+    (lit< tt, (lit< tt, (lit< tt, (lit< tt, (lit< tt, (lit< tt, (lit< tt, ((inl refl, refl), tt))))))))
 
 -- The world at the start is lawful.
 pub opening_lawful : (s : Reading) → IsBuilt s → Lawful (opening_world s)

@@ -1,6 +1,6 @@
 -- One more answer, and one more entry.
-use Rattle.std.proofs.Common.{◌≡◌, ◌≢◌, ℕ, zero, suc, ◌+◌, ◌<◌, ◌≤◌, List, [], ◌∷◌, ◌++◌, length, get_or, set, take, map, true, false, Option, Some, None, refl, sym, ap, ◌∙◌, subst, arith, length-append, add-one}
-use Rattle.std.specs.Prelude.{slice_get, IsTrue}
+use Rattle.std.proofs.Common.{◌≡◌, ◌≢◌, ℕ, zero, suc, ◌+◌, ◌≤◌, List, [], ◌∷◌, ◌++◌, length, take, map, true, false, Option, Some, None, refl, sym, ap, ◌∙◌, subst, arith, length-append, add-one}
+use Rattle.std.specs.Prelude.{slice_get}
 use Rattle.std.specs.List.{All}
 use Rattle.std.proofs.lemmas.List.{append-nil, map-append}
 use Rattle.std.proofs.lemmas.List.Elements.{All-from_recursion, All-append}
@@ -10,7 +10,7 @@ use Rattle.heap_history.specs.declared.call.Reply.{Reply}
 use Rattle.heap_history.specs.declared.call.Reply.TheVariants.{NotThere}
 use Rattle.heap_history.specs.declared.call.Entry.{Entry}
 use Rattle.heap_history.specs.FixedHeaps.{Heap, opening, answer}
-use Rattle.heap_history.specs.Histories.{Ended, IsAccepted, IsNext, heap_at, heap_after, changes, calls, change_of, is_change, pass_of}
+use Rattle.heap_history.specs.Histories.{IsAccepted, IsNext, heap_at, changes, is_change, pass_of}
 use Rattle.heap_history.specs.HistoryLaws.{heap_at-append, heap_at-length, IsNext-append, IsNext-look, IsNext-change, changes-append, IsAccepted-append, heap_after-changes}
 use Rattle.heap_script.specs.declared.script.Command.{Command}
 use Rattle.heap_script.specs.declared.script.Line.{Line}
@@ -90,7 +90,7 @@ module _ (quota made : ℕ) (registers : List FieldWord) (lines : List Line) (an
   told made' registers' entries' more same own accepted answered regs lens =
       let len : length (answers ++ a ∷ []) ≡ length answers + 1 = length-append answers (a ∷ []) in
       let cs : commands_in (take (length (answers ++ a ∷ [])) lines) ≡ commands_in (take (length answers) lines) ++ c ∷ [] =
-          ap (λ k. commands_in (take k lines)) len ∙ commands_push lines (length answers) at.0 c at.1 in
+      ap (λ k. commands_in (take k lines)) len ∙ commands_push lines (length answers) at.0 c at.1 in
       let grown = run_grows quota 1 h more first_seat (commands_in (take (length answers) lines)) answers t.fronts t.seat (omega arith) t.run in
       let pushed = run_push quota 1 (h ++ more) first_seat (commands_in (take (length answers) lines)) answers t.fronts t.seat c a (length (h ++ more)) grown answered in
       let last = seat_after t.seat c a (length (h ++ more)) in
@@ -133,7 +133,7 @@ module _ (quota made : ℕ) (registers : List FieldWord) (lines : List Line) (an
       let answered : IsAnswered quota 1 h t.seat c a (length h) = subst Q (sym some) (numbered, subst N (sym t.seen_is) (IsNext-look h 1 call (reply_of a) look said)) in
       let R : List Call → Type 0 = λ x. IsAnswered quota 1 x t.seat c a (length x) in
       let same : changes (entries ++ record { call = call; reply = reply_of a } ∷ []) ≡ h ++ [] =
-          changes-append entries (record { call = call; reply = reply_of a }) ∙ rw look refl in
+      changes-append entries (record { call = call; reply = reply_of a }) ∙ rw look refl in
       told made registers' _ [] same none_own (accepted_push call (reply_of a) said there) (subst R (sym (append-nil h)) answered) regs lens
 
   -- the command was a change
@@ -145,8 +145,8 @@ module _ (quota made : ℕ) (registers : List FieldWord) (lines : List Line) (an
       let Q : Option Call → Type 0 = λ o. IsOutcome quota 1 (h ++ call ∷ []) t.seat c a (length (h ++ call ∷ [])) o in
       let N : ℕ → ℕ → Type 0 = λ n front. IsNext (h ++ call ∷ []) 1 n (record { call = call; reply = reply_of a; front = front }) in
       let next : N t.seat.seen (length (h ++ call ∷ [])) =
-          subst (λ (front : ℕ). N t.seat.seen front) (sym len) (subst (λ (n : ℕ). N n (length h + 1)) (sym t.seen_is) (IsNext-change h 1 call (reply_of a) change own said)) in
+      subst (λ (front : ℕ). N t.seat.seen front) (sym len) (subst (λ (n : ℕ). N n (length h + 1)) (sym t.seen_is) (IsNext-change h 1 call (reply_of a) change own said)) in
       let answered : IsAnswered quota 1 (h ++ call ∷ []) t.seat c a (length (h ++ call ∷ [])) = subst Q (sym some) (numbered, next) in
       let same : changes (entries ++ record { call = call; reply = reply_of a } ∷ []) ≡ h ++ call ∷ [] =
-          changes-append entries (record { call = call; reply = reply_of a }) ∙ rw change refl in
+      changes-append entries (record { call = call; reply = reply_of a }) ∙ rw change refl in
       told made' registers' _ (call ∷ []) same (one_own call own) (accepted_push call (reply_of a) said there) answered regs lens

@@ -1,6 +1,6 @@
 -- Every turn keeps the world lawful.
-use Rattle.std.proofs.Common.{◌≡◌, ◌≢◌, ℕ, zero, suc, ◌+◌, ◌*◌, ◌^◌, ◌<◌, ◌≤◌, ◌⊎◌, List, [], ◌∷◌, ◌++◌, length, get_or, set, take, drop, map, replicate, cond, Bool, true, false, Option, Some, None, refl, sym, ap, ◌∙◌, subst, arith, lit<, inl, inr, length-append, length-set, leb, ltb, eqb}
-use Rattle.std.specs.Prelude.{slice_get, slice_index, option_map, min, sum_by, is_some, nat_lt}
+use Rattle.std.proofs.Common.{◌≡◌, ◌≢◌, ℕ, ◌+◌, ◌<◌, ◌≤◌, List, [], ◌∷◌, ◌++◌, length, get_or, set, drop, map, replicate, cond, Bool, true, false, Option, Some, None, refl, sym, ap, ◌∙◌, subst, arith, lit<, inl, inr, length-append, leb, ltb, eqb}
+use Rattle.std.specs.Prelude.{slice_get, slice_index, option_map, min, sum_by, is_some}
 use Rattle.std.specs.List.{All}
 use Rattle.std.proofs.lemmas.Bool.{lt-ltb, le-leb, le-ltb, eq-eqb, ltb-true, ltb-false}
 use Rattle.std.proofs.lemmas.List.{length-map, map-set, append-nil, length-replicate, get_or-replicate}
@@ -16,7 +16,7 @@ use Rattle.heap_words.specs.PlaceLaws.{words_of-bound}
 use Rattle.heap_words.specs.declared.field_word.FieldWord.{FieldWord}
 use Rattle.heap_words.specs.declared.field_word.FieldWord.TheVariants.{Num, Link}
 use Rattle.heap_history.specs.declared.call.Entry.{Entry}
-use Rattle.heap_history.specs.FixedHeaps.{Heap, fields_of, opening, value_in, field_in, answer, after, got, wrote, is_there, write_in, changed, zeros}
+use Rattle.heap_history.specs.FixedHeaps.{fields_of, opening, value_in, field_in, answer, after, got, wrote, is_there, write_in, changed, zeros}
 use Rattle.std.specs.Ordering.{nat_cmp}
 use Rattle.std.specs.BTreeMap.{insert_entry}
 use Rattle.heap_history.specs.Histories.{heap_after, changes, change_of, is_change}
@@ -37,11 +37,9 @@ use Rattle.heap_script.specs.declared.script.Command.{Command}
 use Rattle.heap_script.specs.declared.script.Command.TheVariants as commands
 use Rattle.heap_script.specs.declared.answer.Answer.{Answer}
 use Rattle.heap_script.specs.declared.answer.Answer.TheVariants as answers
-use Rattle.call_steps.specs.declared.step.Step.{Step}
 use Rattle.call_steps.specs.declared.step.Step.TheVariants.{Load, Store, Exchange, Ended}
 use Rattle.call_steps.specs.Steps.{applied, found_by, IsInside}
 use Rattle.call_steps.specs.StepLaws.{reading, Put, applied-puts, length-applied}
-use Rattle.gc_tool.specs.declared.thread.Thread.{Thread}
 use Rattle.gc_tool.specs.declared.new_object.Room.{Room}
 use Rattle.gc_tool.specs.declared.poll.PollMachine.TheVariants as poll
 use Rattle.gc_tool.specs.declared.doing.Doing.{Doing}
@@ -57,8 +55,8 @@ use Rattle.gc_tool.specs.declared.write.WriteEnd.TheVariants as write_ends
 use Rattle.gc_tool.specs.Reads as reads
 use Rattle.gc_tool.specs.Writes as writes
 use Rattle.gc_tool.specs.declared.write.WriteMachine.TheVariants as write
-use Rattle.gc_tool.specs.Threads.{value_of, held, meant, access, begun, named, read_ended, write_ended, new_ended}
-use Rattle.gc_tool.specs.Worlds.{entries_after, settled_at, concluded, taken_in, turn_of, is_over, is_done, CanTurn}
+use Rattle.gc_tool.specs.Threads.{value_of, held, meant, access, begun, named, read_ended}
+use Rattle.gc_tool.specs.Worlds.{settled_at, concluded, taken_in, turn_of, is_over, is_done, CanTurn}
 use Rattle.gc_tool.specs.Forms.{room_of}
 use Rattle.gc_tool.specs.Lawful.{Lawful, View, Laid, Holds, Agrees, IsFresh, Tells, IsObject, IsAt, IsUnclaimed, IsCommand, IsPlanned, IsReadAt, IsWriteAt, heap_of, len_of, base}
 use Rattle.gc_tool.specs.Headers.{len_in, plain_header, taken}
@@ -77,12 +75,12 @@ pub next_is_at : (l : Sizes) (v : View) (registers : List FieldWord) (room : Roo
     → IsAt l v registers room made lines told (machine_after lines k)
 next_is_at l v registers room made lines told k len within = elim (dec_lt k (length lines)) [
   | yes lt ↦
-    let e : ltb k (length lines) ≡ true = lt-ltb k (length lines) lt in
-    let P : Doing → Type 0 = λ d. IsAt l v registers room made lines told d in
-    rw e (refl, omega (arith, len, lt))
+      let e : ltb k (length lines) ≡ true = lt-ltb k (length lines) lt in
+      let P : Doing → Type 0 = λ d. IsAt l v registers room made lines told d in
+      rw e (refl, omega (arith, len, lt))
   | no ge ↦
-    let e : ltb k (length lines) ≡ false = le-ltb k (length lines) (omega arith) in
-    rw e (omega (arith, len, ge, within))
+      let e : ltb k (length lines) ≡ false = le-ltb k (length lines) (omega arith) in
+      rw e (omega (arith, len, ge, within))
 ]
 
 pub next_unclaimed : (l : Sizes) (room : Room) (m : ℕ → ℕ) (lines : List Line) (k : ℕ) → (is_some room.region ≡ false → m (region_at l (first_region l 1)) ≡ 0) → IsUnclaimed l room m (machine_after lines k)
@@ -109,10 +107,10 @@ module _ (w : World) (lw : Lawful w) (c : Command) (at : IsCommand w.script.line
       → length entries ≤ length w.told.entries + 1
       → (is_some room.region ≡ false → reading words (region_at w.script.layout (first_region w.script.layout 1)) ≡ 0)
       → Lawful (record w {
-          words = words;
-          thread = record { registers = registers; doing = machine_after w.script.lines (length w.told.answers + 1); room = room; made = made };
-          told = record w.told { answers = w.told.answers ++ a ∷ []; entries = entries };
-        })
+        words = words;
+        thread = record { registers = registers; doing = machine_after w.script.lines (length w.told.answers + 1); room = room; made = made };
+        told = record w.told { answers = w.told.answers ++ a ∷ []; entries = entries };
+      })
   after_answer words width registers room made v entries laid fields held agrees fresh tells used few more unclaimed = record {
     built = lw.built;
     width = width ∙ lw.width;
@@ -124,10 +122,10 @@ module _ (w : World) (lw : Lawful w) (c : Command) (at : IsCommand w.script.line
     fresh = fresh;
     tells = tells;
     room_left =
-      let passed = sum_by-drop (λ (l : Line). room_of l.command) w.script.lines (length w.told.answers) (record { thread = at.0; command = c }) at.1 in
-      let rest : sum_by (λ l. room_of l.command) (drop (length (w.told.answers ++ a ∷ [])) w.script.lines) ≡ sum_by (λ l. room_of l.command) (drop (length w.told.answers + 1) w.script.lines) =
-          ap (λ n. sum_by (λ l. room_of l.command) (drop n w.script.lines)) told_len in
-      omega (arith, passed, rest, lw.room_left, used);
+        let passed = sum_by-drop (λ (l : Line). room_of l.command) w.script.lines (length w.told.answers) (record { thread = at.0; command = c }) at.1 in
+        let rest : sum_by (λ l. room_of l.command) (drop (length (w.told.answers ++ a ∷ [])) w.script.lines) ≡ sum_by (λ l. room_of l.command) (drop (length w.told.answers + 1) w.script.lines) =
+        ap (λ n. sum_by (λ l. room_of l.command) (drop n w.script.lines)) told_len in
+        omega (arith, passed, rest, lw.room_left, used);
     made_few = omega (arith, told_len, lw.made_few, few);
     answers_fit = omega (arith, told_len, within);
     entries_fit = omega (arith, told_len, lw.entries_fit, more);
@@ -220,10 +218,13 @@ region_low l il k h = omega (arith, h)
 module _ (w : World) (lw : Lawful w) where
   abbrev l : Sizes
   l = w.script.layout
+
   abbrev il : IsLayout l
   il = lw.built.fits.layout
+
   abbrev made : ℕ
   made = w.thread.made
+
   abbrev m : ℕ → ℕ
   m = reading w.words
 
@@ -280,9 +281,9 @@ module _ (w : World) (lw : Lawful w) where
   answered_none at h c command a none no_call regs lens unclaimed machine =
       let tells = tells_none l.quota made w.thread.registers w.script.lines w.told.answers w.told.entries lw.tells c command a none no_call (regs ∙ lw.tells.registers_are) (ap length lens ∙ lw.tells.lens_are) in
       after_answer w lw c command a (loaded at) (loaded_width w.words at) w.thread.registers w.thread.room made lw.view w.told.entries
-        (laid_same m (reading (loaded at)) l il w.thread.room.used made lw.view (same_words at h) lw.laid)
-        lw.fields lw.registers lw.agrees lw.fresh tells (omega arith) (omega arith) (omega arith)
-        (λ e. loaded_same w.words at (inside at h) (region_at l (first_region l 1)) ∙ unclaimed e)
+      (laid_same m (reading (loaded at)) l il w.thread.room.used made lw.view (same_words at h) lw.laid)
+      lw.fields lw.registers lw.agrees lw.fresh tells (omega arith) (omega arith) (omega arith)
+      (λ e. loaded_same w.words at (inside at h) (region_at l (first_region l 1)) ∙ unclaimed e)
 
   -- ---- the poll
 
@@ -332,10 +333,10 @@ module _ (w : World) (lw : Lawful w) where
       → Lawful (polled (doing.New (cond b (make.Header (plan_of l 1 w.thread.room.used made len)) (make.Region (plan_of l 1 w.thread.room.used made len)))))
   begins_new dst len at unclaimed true e =
       goes_on w lw (loaded 0) (loaded_width w.words 0) (same_words 0 phase_inside) (doing.New (make.Header (plan_of l 1 w.thread.room.used made len))) tt
-        (record { dst = dst; len = len; command = at; plan_is = refl; room_left = room_for dst len at; short = (plain (commands.New dst len) at).1 })
+      (record { dst = dst; len = len; command = at; plan_is = refl; room_left = room_for dst len at; short = (plain (commands.New dst len) at).1 })
   begins_new dst len at unclaimed false e =
       goes_on w lw (loaded 0) (loaded_width w.words 0) (same_words 0 phase_inside) (doing.New (make.Region (plan_of l 1 w.thread.room.used made len))) (unclaimed_still 0 phase_inside unclaimed)
-        (record { dst = dst; len = len; command = at; plan_is = refl; room_left = room_for dst len at; short = (plain (commands.New dst len) at).1 }, e)
+      (record { dst = dst; len = len; command = at; plan_is = refl; room_left = room_for dst len at; short = (plain (commands.New dst len) at).1 }, e)
 
   begins : (c : Command) → IsCommand w.script.lines w.told.answers c → (is_some w.thread.room.region ≡ false → m region_word ≡ 0)
       → Lawful (taken_in (polled (doing.Poll poll.Ended)) (begun l c (record w.thread { doing = doing.Poll poll.Ended })))
@@ -345,12 +346,12 @@ module _ (w : World) (lw : Lawful w) where
       rw (fits, and-true (is_some w.thread.room.region)) made_one
   begins (commands.Get dst obj field) at unclaimed =
       begun_access obj 0 field (commands.Get dst obj field) at (λ birth a. doing.Read (read.Header (spot_of birth a field))) refl (λ n e. refused obj n field e) refl refl
-        (λ birth a e. record { dst = dst; obj = obj; command = at; link = e; spot_is = refl })
-        (λ birth a. unclaimed_still 0 phase_inside unclaimed) unclaimed (held w.thread.registers obj) refl
+      (λ birth a e. record { dst = dst; obj = obj; command = at; link = e; spot_is = refl })
+      (λ birth a. unclaimed_still 0 phase_inside unclaimed) unclaimed (held w.thread.registers obj) refl
   begins (commands.Put obj field what) at unclaimed =
       begun_access obj 0 field (commands.Put obj field what) at (λ birth a. doing.Write (write.Header (spot_of birth a field) (word_of (meant w.thread.registers what)))) refl (λ n e. refused obj n field e) refl refl
-        (λ birth a e. record { obj = obj; what = what; command = at; link = e; spot_is = refl; word_is = refl })
-        (λ birth a. unclaimed_still 0 phase_inside unclaimed) unclaimed (held w.thread.registers obj) refl
+      (λ birth a e. record { obj = obj; what = what; command = at; link = e; spot_is = refl; word_is = refl })
+      (λ birth a. unclaimed_still 0 phase_inside unclaimed) unclaimed (held w.thread.registers obj) refl
   begins (commands.Cas dst obj field expected value) at unclaimed = absurd (plain _ at)
   begins (commands.Copy dst src) at unclaimed = absurd (plain _ at)
   begins (commands.Drop dst) at unclaimed = absurd (plain _ at)
@@ -373,9 +374,9 @@ module _ (w : World) (lw : Lawful w) where
       let line = p.command in
       let here = plan_of l 1 w.thread.room.used made p.len in
       let next : Lawful (record w { words = loaded region_word; thread = record w.thread { doing = doing.New (make.Claim here) } }) =
-          goes_on w lw (loaded region_word) (loaded_width w.words region_word) (same_words region_word region_inside) (doing.New (make.Claim here))
-            (unclaimed_still region_word region_inside (λ _. word))
-            (record { dst = p.dst; len = p.len; command = p.command; plan_is = refl; room_left = p.room_left; short = p.short }, free) in
+      goes_on w lw (loaded region_word) (loaded_width w.words region_word) (same_words region_word region_inside) (doing.New (make.Claim here))
+      (unclaimed_still region_word region_inside (λ _. word))
+      (record { dst = p.dst; len = p.len; command = p.command; plan_is = refl; room_left = p.room_left; short = p.short }, free) in
       let e : eqb (slice_index w.words region_word) 0 ≡ true = eq-eqb _ _ word in
       subst P (sym p.plan_is) (settled_with _ (slice_get w.script.lines (length w.told.answers)) (Some (record { thread = line.0; command = commands.New p.dst p.len })) line.1 (rw e next))
 
@@ -392,8 +393,8 @@ module _ (w : World) (lw : Lawful w) where
       let put = applied-puts (Exchange region_word 0 (taken 1)) w.words (λ e. cc) (inside region_word region_inside) in
       let low = region_low l il (first_region l 1) first_is_region in
       let next : Lawful (record w { words = claimed; thread = record w.thread { doing = doing.New (make.Header here) } }) =
-          goes_on w lw claimed (length-applied (Exchange region_word 0 (taken 1)) w.words) (λ a h. put.elsewhere a (λ e. omega (arith, e, h, low))) (doing.New (make.Header here)) tt
-            (record { dst = p.dst; len = p.len; command = p.command; plan_is = refl; room_left = p.room_left; short = p.short }) in
+      goes_on w lw claimed (length-applied (Exchange region_word 0 (taken 1)) w.words) (λ a h. put.elsewhere a (λ e. omega (arith, e, h, low))) (doing.New (make.Header here)) tt
+      (record { dst = p.dst; len = p.len; command = p.command; plan_is = refl; room_left = p.room_left; short = p.short }) in
       let e : eqb (slice_index w.words region_word) 0 ≡ true = eq-eqb _ _ word in
       subst P (sym p.plan_is) (settled_with _ (slice_get w.script.lines (length w.told.answers)) (Some (record { thread = line.0; command = commands.New p.dst p.len })) line.1 (rw e (rw e at next)))
 
@@ -432,7 +433,7 @@ module _ (w : World) (lw : Lawful w) where
   read_by spot p unclaimed false e =
       let h = spot_inside p.obj spot p.link in
       answered_none spot.at h (commands.Get p.dst p.obj spot.field) p.command (answers.NoField (len_of lw.view spot.birth)) refl
-        (no_field p.obj spot.birth spot.at spot.field p.link (ltb-false _ _ e)) refl refl unclaimed (doing.Read (read.Ended (read_ends.NoField (len_of lw.view spot.birth))))
+      (no_field p.obj spot.birth spot.at spot.field p.link (ltb-false _ _ e)) refl refl unclaimed (doing.Read (read.Ended (read_ends.NoField (len_of lw.view spot.birth))))
 
   read_turn : (spot : Spot) → IsReadAt w.thread.registers w.script.lines w.told.answers spot → (is_some w.thread.room.region ≡ false → m region_word ≡ 0)
       → Lawful (turn_with w (doing.Read (read.Header spot)))
@@ -440,7 +441,7 @@ module _ (w : World) (lw : Lawful w) where
       let len = header_len spot.birth spot.at (object_of p.obj spot.birth spot.at p.link) in
       let P : ℕ → Type 0 = λ n. Lawful (settled_at (headed spot (doing.Read (reads.by_len spot n))) (line_of (commands.Get p.dst p.obj spot.field) p.command)) in
       settled_with _ (slice_get w.script.lines (length w.told.answers)) (line_of (commands.Get p.dst p.obj spot.field) p.command) p.command.1
-        (subst P (sym len) (read_by spot p unclaimed (ltb spot.field (len_of lw.view spot.birth)) refl))
+      (subst P (sym len) (read_by spot p unclaimed (ltb spot.field (len_of lw.view spot.birth)) refl))
 
   write_by : (spot : Spot) (word : ℕ) (p : IsWriteAt w.thread.registers w.script.lines w.told.answers spot word) → (is_some w.thread.room.region ≡ false → m region_word ≡ 0)
       → (b : Bool) → ltb spot.field (len_of lw.view spot.birth) ≡ b
@@ -451,7 +452,7 @@ module _ (w : World) (lw : Lawful w) where
   write_by spot word p unclaimed false e =
       let h = spot_inside p.obj spot p.link in
       answered_none spot.at h (commands.Put p.obj spot.field p.what) p.command (answers.NoField (len_of lw.view spot.birth)) refl
-        (no_field p.obj spot.birth spot.at spot.field p.link (ltb-false _ _ e)) refl refl unclaimed (doing.Write (write.Ended (write_ends.NoField (len_of lw.view spot.birth))))
+      (no_field p.obj spot.birth spot.at spot.field p.link (ltb-false _ _ e)) refl refl unclaimed (doing.Write (write.Ended (write_ends.NoField (len_of lw.view spot.birth))))
 
   write_turn : (spot : Spot) (word : ℕ) → IsWriteAt w.thread.registers w.script.lines w.told.answers spot word → (is_some w.thread.room.region ≡ false → m region_word ≡ 0)
       → Lawful (turn_with w (doing.Write (write.Header spot word)))
@@ -459,7 +460,7 @@ module _ (w : World) (lw : Lawful w) where
       let len = header_len spot.birth spot.at (object_of p.obj spot.birth spot.at p.link) in
       let P : ℕ → Type 0 = λ n. Lawful (settled_at (headed spot (doing.Write (writes.by_len spot word n))) (line_of (commands.Put p.obj spot.field p.what) p.command)) in
       settled_with _ (slice_get w.script.lines (length w.told.answers)) (line_of (commands.Put p.obj spot.field p.what) p.command) p.command.1
-        (subst P (sym len) (write_by spot word p unclaimed (ltb spot.field (len_of lw.view spot.birth)) refl))
+      (subst P (sym len) (write_by spot word p unclaimed (ltb spot.field (len_of lw.view spot.birth)) refl))
 
   -- ---- an access at its field
 
@@ -522,24 +523,24 @@ module _ (w : World) (lw : Lawful w) where
       let answer_is = answers.Got (value_of x) in
       let name : named (held w.thread.registers p.obj) ≡ spot.birth = ap named p.link in
       let call_is : call_of 1 lw.tells.seat command answer_is ≡ Some (read_call p.obj spot.field) =
-          ap (λ v. allowed.on_object v (λ birth. calls.Read 1 birth spot.field)) (seat_link p.obj spot.birth spot.at p.link) ∙ ap (λ birth. Some (calls.Read 1 birth spot.field)) (sym name) in
+      ap (λ v. allowed.on_object v (λ birth. calls.Read 1 birth spot.field)) (seat_link p.obj spot.birth spot.at p.link) ∙ ap (λ birth. Some (calls.Read 1 birth spot.field)) (sym name) in
       let said : answer (heap_of w.told.entries) (read_call p.obj spot.field) ≡ replies.Got (value_of x) =
-          ap (λ birth. got (value_in (heap_of w.told.entries) birth spot.field)) name ∙ ap got (heap_value spot.birth spot.field o.0 small) in
+      ap (λ birth. got (value_in (heap_of w.told.entries) birth spot.field)) name ∙ ap got (heap_value spot.birth spot.field o.0 small) in
       let regs : registers_after lw.tells.seat command answer_is ≡ map value_of (set w.thread.registers p.dst x) =
-          ap (λ (xs : List Value). set xs p.dst (value_of x)) lw.tells.registers_are ∙ sym (map-set value_of w.thread.registers p.dst x) in
+      ap (λ (xs : List Value). set xs p.dst (value_of x)) lw.tells.registers_are ∙ sym (map-set value_of w.thread.registers p.dst x) in
       let tells = tells_look l.quota made w.thread.registers w.script.lines w.told.answers w.told.entries lw.tells command p.command answer_is (read_call p.obj spot.field) (set w.thread.registers p.dst x)
-          call_is tt refl said (λ e. cc) regs lw.tells.lens_are in
+      call_is tt refl said (λ e. cc) regs lw.tells.lens_are in
       let entries = w.told.entries ++ record { call = read_call p.obj spot.field; reply = replies.Got (value_of x) } ∷ [] in
       let same : heap_of entries ≡ heap_of w.told.entries = heap_look w.told.entries (read_call p.obj spot.field) (value_of x) in
       let len : length entries ≡ length w.told.entries + 1 = length-append w.told.entries _ in
       let done : Lawful (taken_in (record w { words = loaded spot.place; thread = record w.thread { doing = doing.Read (read.Ended (read_ends.Got x)) } }) (read_ended command (read_ends.Got x) (record w.thread { doing = doing.Read (read.Ended (read_ends.Got x)) }))) =
-          after_answer w lw command p.command answer_is (loaded spot.place) (loaded_width w.words spot.place) (set w.thread.registers p.dst x) w.thread.room made lw.view entries
-            (laid_same m (reading (loaded spot.place)) l il w.thread.room.used made lw.view (same_words spot.place h) lw.laid)
-            lw.fields (All-set (Holds made lw.view) w.thread.registers p.dst x (content_holds spot o.0 small) lw.registers)
-            (subst (Agrees made lw.view) (sym same) lw.agrees) (subst (IsFresh made) (sym same) lw.fresh) tells (omega arith) (omega arith) (omega (arith, len)) (unclaimed_still spot.place h unclaimed) in
+      after_answer w lw command p.command answer_is (loaded spot.place) (loaded_width w.words spot.place) (set w.thread.registers p.dst x) w.thread.room made lw.view entries
+      (laid_same m (reading (loaded spot.place)) l il w.thread.room.used made lw.view (same_words spot.place h) lw.laid)
+      lw.fields (All-set (Holds made lw.view) w.thread.registers p.dst x (content_holds spot o.0 small) lw.registers)
+      (subst (Agrees made lw.view) (sym same) lw.agrees) (subst (IsFresh made) (sym same) lw.fresh) tells (omega arith) (omega arith) (omega (arith, len)) (unclaimed_still spot.place h unclaimed) in
       let P : FieldWord → Type 0 = λ y. Lawful (settled_at (record w { words = loaded spot.place; thread = record w.thread { doing = doing.Read (read.Ended (read_ends.Got y)) } }) (line_of command p.command)) in
       settled_with _ (slice_get w.script.lines (length w.told.answers)) (line_of command p.command) p.command.1
-        (subst P (sym (loaded_content p.obj spot p.link p.spot_is small)) done)
+      (subst P (sym (loaded_content p.obj spot p.link p.spot_is small)) done)
 
   -- ---- a write at its field
 
@@ -586,45 +587,45 @@ module _ (w : World) (lw : Lawful w) where
       let words = applied (Store spot.place word) w.words in
       let put0 = applied-puts (Store spot.place word) w.words (λ e. cc) (inside spot.place h) in
       let put : Put m (reading words) (lw.view.at spot.birth + 1 + spot.field) (word_of x) =
-          subst (λ (a : ℕ). Put m (reading words) a (word_of x)) at (subst (λ (y : ℕ). Put m (reading words) spot.place y) p.word_is put0) in
+      subst (λ (a : ℕ). Put m (reading words) a (word_of x)) at (subst (λ (y : ℕ). Put m (reading words) spot.place y) p.word_is put0) in
       let name : named (held w.thread.registers p.obj) ≡ spot.birth = ap named p.link in
       let call_is : call_of 1 lw.tells.seat command answers.Ok ≡ Some call =
-          ap (λ y. allowed.on_object y (λ birth. calls.Write 1 birth spot.field (allowed.value_of lw.tells.seat p.what))) (seat_link p.obj spot.birth spot.at p.link)
-          ∙ ap (λ birth. Some (calls.Write 1 birth spot.field (allowed.value_of lw.tells.seat p.what))) (sym name)
-          ∙ ap (λ y. Some (calls.Write 1 (named (held w.thread.registers p.obj)) spot.field y)) (meant_value p.what) in
+      ap (λ y. allowed.on_object y (λ birth. calls.Write 1 birth spot.field (allowed.value_of lw.tells.seat p.what))) (seat_link p.obj spot.birth spot.at p.link)
+      ∙ ap (λ birth. Some (calls.Write 1 birth spot.field (allowed.value_of lw.tells.seat p.what))) (sym name)
+      ∙ ap (λ y. Some (calls.Write 1 (named (held w.thread.registers p.obj)) spot.field y)) (meant_value p.what) in
       let ok : is_there (heap_of w.told.entries) (value_of x) ≡ true = there x holds in
       let said : answer (heap_of w.told.entries) call ≡ replies.Wrote =
-          ap (λ b. cond b (wrote (value_in (heap_of w.told.entries) (named (held w.thread.registers p.obj)) spot.field)) replies.NotThere) ok
-          ∙ ap (λ birth. wrote (value_in (heap_of w.told.entries) birth spot.field)) name ∙ ap wrote (heap_value spot.birth spot.field o.0 small) in
+      ap (λ b. cond b (wrote (value_in (heap_of w.told.entries) (named (held w.thread.registers p.obj)) spot.field)) replies.NotThere) ok
+      ∙ ap (λ birth. wrote (value_in (heap_of w.told.entries) birth spot.field)) name ∙ ap wrote (heap_value spot.birth spot.field o.0 small) in
       let entries = w.told.entries ++ record { call = call; reply = replies.Wrote } ∷ [] in
       let heap_is : heap_of entries ≡ write_in (heap_of w.told.entries) spot.birth spot.field (value_of x) =
-          heap_change w.told.entries call replies.Wrote refl ∙ ap (changed (heap_of w.told.entries) call) said
-          ∙ ap (λ birth. write_in (heap_of w.told.entries) birth spot.field (value_of x)) name in
+      heap_change w.told.entries call replies.Wrote refl ∙ ap (changed (heap_of w.told.entries) call) said
+      ∙ ap (λ birth. write_in (heap_of w.told.entries) birth spot.field (value_of x)) name in
       let agrees : (b : ℕ) → IsObject made b → fields_of (write_in (heap_of w.told.entries) spot.birth spot.field (value_of x)) b ≡ Some (map value_of (v.fields b)) =
-          λ b object. elim (eqb_tells b spot.birth) [
-            | inl q ↦ ap (fields_of (write_in (heap_of w.told.entries) spot.birth spot.field (value_of x))) q.1
-                ∙ fields_of-write (heap_of w.told.entries) spot.birth spot.field (value_of x) (map value_of (lw.view.fields spot.birth)) (lw.agrees spot.birth o.0)
-                ∙ ap (λ (ys : List Value). Some ys) (sym (map-set value_of (lw.view.fields spot.birth) spot.field x))
-                ∙ ap (λ (ys : List FieldWord). Some (map value_of ys)) (sym (ap v.fields q.1 ∙ fields_here lw.view spot.birth (set (lw.view.fields spot.birth) spot.field x)))
-            | inr q ↦ fields_of-write_other (heap_of w.told.entries) spot.birth spot.field (value_of x) b q.1 ∙ lw.agrees b object
-                ∙ ap (λ (ys : List FieldWord). Some (map value_of ys)) (sym (fields_there lw.view spot.birth (set (lw.view.fields spot.birth) spot.field x) b q.1))
-          ] in
+      λ b object. elim (eqb_tells b spot.birth) [
+        | inl q ↦ ap (fields_of (write_in (heap_of w.told.entries) spot.birth spot.field (value_of x))) q.1
+            ∙ fields_of-write (heap_of w.told.entries) spot.birth spot.field (value_of x) (map value_of (lw.view.fields spot.birth)) (lw.agrees spot.birth o.0)
+            ∙ ap (λ (ys : List Value). Some ys) (sym (map-set value_of (lw.view.fields spot.birth) spot.field x))
+            ∙ ap (λ (ys : List FieldWord). Some (map value_of ys)) (sym (ap v.fields q.1 ∙ fields_here lw.view spot.birth (set (lw.view.fields spot.birth) spot.field x)))
+        | inr q ↦ fields_of-write_other (heap_of w.told.entries) spot.birth spot.field (value_of x) b q.1 ∙ lw.agrees b object
+            ∙ ap (λ (ys : List FieldWord). Some (map value_of ys)) (sym (fields_there lw.view spot.birth (set (lw.view.fields spot.birth) spot.field x) b q.1))
+      ] in
       let fresh : (b : ℕ) → 524288 + made < b → fields_of (write_in (heap_of w.told.entries) spot.birth spot.field (value_of x)) b ≡ None =
-          λ b above. fields_of-write_other (heap_of w.told.entries) spot.birth spot.field (value_of x) b (λ e. old_birth spot.birth b o.0 above e) ∙ lw.fresh b above in
+      λ b above. fields_of-write_other (heap_of w.told.entries) spot.birth spot.field (value_of x) b (λ e. old_birth spot.birth b o.0 above e) ∙ lw.fresh b above in
       let tells = tells_change l.quota made w.thread.registers w.script.lines w.told.answers w.told.entries lw.tells command p.command answers.Ok call made w.thread.registers
-          call_is tt refl refl said (λ e. cc) lw.tells.registers_are lw.tells.lens_are in
+      call_is tt refl refl said (λ e. cc) lw.tells.registers_are lw.tells.lens_are in
       let len : length entries ≡ length w.told.entries + 1 = length-append w.told.entries _ in
       let fields : (b : ℕ) → IsObject made b → All (Holds made v) (v.fields b) =
-          λ b object. elim (eqb_tells b spot.birth) [
-            | inl q ↦ subst (All (Holds made v)) (sym (ap v.fields q.1 ∙ fields_here lw.view spot.birth (set (lw.view.fields spot.birth) spot.field x)))
-                (All-set (Holds made v) (lw.view.fields spot.birth) spot.field x (kept spot x x holds) (kept_all spot x (lw.view.fields spot.birth) (lw.fields spot.birth o.0)))
-            | inr q ↦ subst (All (Holds made v)) (sym (fields_there lw.view spot.birth (set (lw.view.fields spot.birth) spot.field x) b q.1)) (kept_all spot x (lw.view.fields b) (lw.fields b object))
-          ] in
+      λ b object. elim (eqb_tells b spot.birth) [
+        | inl q ↦ subst (All (Holds made v)) (sym (ap v.fields q.1 ∙ fields_here lw.view spot.birth (set (lw.view.fields spot.birth) spot.field x)))
+            (All-set (Holds made v) (lw.view.fields spot.birth) spot.field x (kept spot x x holds) (kept_all spot x (lw.view.fields spot.birth) (lw.fields spot.birth o.0)))
+        | inr q ↦ subst (All (Holds made v)) (sym (fields_there lw.view spot.birth (set (lw.view.fields spot.birth) spot.field x) b q.1)) (kept_all spot x (lw.view.fields b) (lw.fields b object))
+      ] in
       let done = after_answer w lw command p.command answers.Ok words (length-applied (Store spot.place word) w.words) w.thread.registers w.thread.room made v entries
-            (laid_store m (reading words) l il w.thread.room.used made lw.view lw.laid spot.birth spot.field x o.0 small put)
-            fields (kept_all spot x w.thread.registers lw.registers)
-            (subst (Agrees made v) (sym heap_is) agrees) (subst (IsFresh made) (sym heap_is) fresh) tells (omega arith) (omega arith) (omega (arith, len))
-            (λ e. put0.elsewhere region_word (λ g. omega (arith, g, at, object_above m l il w.thread.room.used made lw.view lw.laid spot.birth o.0, region_low l il (first_region l 1) first_is_region)) ∙ unclaimed e) in
+      (laid_store m (reading words) l il w.thread.room.used made lw.view lw.laid spot.birth spot.field x o.0 small put)
+      fields (kept_all spot x w.thread.registers lw.registers)
+      (subst (Agrees made v) (sym heap_is) agrees) (subst (IsFresh made) (sym heap_is) fresh) tells (omega arith) (omega arith) (omega (arith, len))
+      (λ e. put0.elsewhere region_word (λ g. omega (arith, g, at, object_above m l il w.thread.room.used made lw.view lw.laid spot.birth o.0, region_low l il (first_region l 1) first_is_region)) ∙ unclaimed e) in
       settled_with _ (slice_get w.script.lines (length w.told.answers)) (line_of command p.command) p.command.1 done
 
   -- ---- the store of a new header
@@ -662,34 +663,34 @@ module _ (w : World) (lw : Lawful w) where
       let said : answer (heap_of w.told.entries) call ≡ replies.Made = rw (low, high, absent) refl in
       let entries = w.told.entries ++ record { call = call; reply = replies.Made } ∷ [] in
       let heap_is : heap_of entries ≡ insert_entry nat_cmp (heap_of w.told.entries) birth (zeros p.len) =
-          heap_change w.told.entries call replies.Made refl ∙ ap (changed (heap_of w.told.entries) call) said in
+      heap_change w.told.entries call replies.Made refl ∙ ap (changed (heap_of w.told.entries) call) said in
       let link = Link birth at in
       let link_holds : Holds (made + 1) v link = (inr (omega arith, omega arith), sym at_new) in
       let agrees : (b : ℕ) → IsObject (made + 1) b → fields_of (insert_entry nat_cmp (heap_of w.told.entries) birth (zeros p.len)) b ≡ Some (map value_of (v.fields b)) =
-          λ b object. elim (case b object) [
-            | inl e ↦ ap (fields_of (insert_entry nat_cmp (heap_of w.told.entries) birth (zeros p.len))) e ∙ fields_of-new (heap_of w.told.entries) birth (zeros p.len)
-                ∙ ap (λ (ys : List Value). Some ys) (sym (map-replicate value_of p.len (Num 0))) ∙ ap (λ (ys : List FieldWord). Some (map value_of ys)) (sym (ap v.fields e ∙ fields_new))
-            | inr old ↦ fields_of-new_other (heap_of w.told.entries) birth (zeros p.len) b (other b old) ∙ lw.agrees b old
-                ∙ ap (λ (ys : List FieldWord). Some (map value_of ys)) (sym (fields_old b (other b old)))
-          ] in
+      λ b object. elim (case b object) [
+        | inl e ↦ ap (fields_of (insert_entry nat_cmp (heap_of w.told.entries) birth (zeros p.len))) e ∙ fields_of-new (heap_of w.told.entries) birth (zeros p.len)
+            ∙ ap (λ (ys : List Value). Some ys) (sym (map-replicate value_of p.len (Num 0))) ∙ ap (λ (ys : List FieldWord). Some (map value_of ys)) (sym (ap v.fields e ∙ fields_new))
+        | inr old ↦ fields_of-new_other (heap_of w.told.entries) birth (zeros p.len) b (other b old) ∙ lw.agrees b old
+            ∙ ap (λ (ys : List FieldWord). Some (map value_of ys)) (sym (fields_old b (other b old)))
+      ] in
       let fresh : (b : ℕ) → 524288 + (made + 1) < b → fields_of (insert_entry nat_cmp (heap_of w.told.entries) birth (zeros p.len)) b ≡ None =
-          λ b above. fields_of-new_other (heap_of w.told.entries) birth (zeros p.len) b (λ e. omega (arith, e, above)) ∙ lw.fresh b (omega (arith, above)) in
+      λ b above. fields_of-new_other (heap_of w.told.entries) birth (zeros p.len) b (λ e. omega (arith, e, above)) ∙ lw.fresh b (omega (arith, above)) in
       let regs : registers_after lw.tells.seat command (answers.Made birth) ≡ map value_of (set w.thread.registers p.dst link) =
-          ap (λ (xs : List Value). set xs p.dst (values.Object birth)) lw.tells.registers_are ∙ sym (map-set value_of w.thread.registers p.dst link) in
+      ap (λ (xs : List Value). set xs p.dst (values.Object birth)) lw.tells.registers_are ∙ sym (map-set value_of w.thread.registers p.dst link) in
       let lens' : length (lens_after lw.tells.seat command (answers.Made birth)) ≡ made + 1 = omega (arith, length-append lw.tells.seat.lens (p.len ∷ []), lens) in
       let tells = tells_change l.quota made w.thread.registers w.script.lines w.told.answers w.told.entries lw.tells command p.command (answers.Made birth) call (made + 1) (set w.thread.registers p.dst link)
-          refl numbered refl refl said (λ e. cc) regs lens' in
+      refl numbered refl refl said (λ e. cc) regs lens' in
       let len : length entries ≡ length w.told.entries + 1 = length-append w.told.entries _ in
       let fields : (b : ℕ) → IsObject (made + 1) b → All (Holds (made + 1) v) (v.fields b) =
-          λ b object. elim (case b object) [
-            | inl e ↦ subst (All (Holds (made + 1) v)) (sym (ap v.fields e ∙ fields_new)) (zeros_hold (made + 1) v p.len)
-            | inr old ↦ subst (All (Holds (made + 1) v)) (sym (fields_old b (other b old))) (grows_all (lw.view.fields b) (lw.fields b old))
-          ] in
+      λ b object. elim (case b object) [
+        | inl e ↦ subst (All (Holds (made + 1) v)) (sym (ap v.fields e ∙ fields_new)) (zeros_hold (made + 1) v p.len)
+        | inr old ↦ subst (All (Holds (made + 1) v)) (sym (fields_old b (other b old))) (grows_all (lw.view.fields b) (lw.fields b old))
+      ] in
       let done = after_answer w lw command p.command (answers.Made birth) words (length-applied (Store at (plain_header p.len birth)) w.words) (set w.thread.registers p.dst link)
-            (record { region = Some (first_region l 1); used = used + p.len + 1 }) (made + 1) v entries laid fields
-            (All-set (Holds (made + 1) v) w.thread.registers p.dst link link_holds (grows_all w.thread.registers lw.registers))
-            (subst (Agrees (made + 1) v) (sym heap_is) agrees) (subst (IsFresh (made + 1)) (sym heap_is) fresh) tells (omega arith) (omega arith) (omega (arith, len))
-            (λ e. absurd cc) in
+      (record { region = Some (first_region l 1); used = used + p.len + 1 }) (made + 1) v entries laid fields
+      (All-set (Holds (made + 1) v) w.thread.registers p.dst link link_holds (grows_all w.thread.registers lw.registers))
+      (subst (Agrees (made + 1) v) (sym heap_is) agrees) (subst (IsFresh (made + 1)) (sym heap_is) fresh) tells (omega arith) (omega arith) (omega (arith, len))
+      (λ e. absurd cc) in
       let P : Plan → Type 0 = λ x. Lawful (turn_with w (doing.New (make.Header x))) in
       subst P (sym p.plan_is) (settled_with _ (slice_get w.script.lines (length w.told.answers)) (line_of command p.command) p.command.1 done)
 

@@ -1,13 +1,12 @@
 -- The objects in memory: what a store in a field and a new header leave of them.
-use Rattle.std.proofs.Common.{◌≡◌, ◌≢◌, ℕ, ◌+◌, ◌*◌, ◌<◌, ◌≤◌, ◌⊎◌, List, [], ◌∷◌, length, get_or, set, replicate, cond, eqb, true, false, refl, sym, ap, ◌∙◌, subst, arith, inl, inr, length-set, get_or-set_same, get_or-set_other}
+use Rattle.std.proofs.Common.{◌≡◌, ◌≢◌, ℕ, ◌+◌, ◌<◌, ◌≤◌, ◌⊎◌, List, length, get_or, set, replicate, cond, eqb, refl, sym, ap, ◌∙◌, subst, arith, inl, inr, length-set, get_or-set_same, get_or-set_other}
 use Rattle.std.proofs.lemmas.Bool.Decides.{eqb_tells}
 use Rattle.std.proofs.lemmas.List.{length-replicate, get_or-replicate}
 use Rattle.std.proofs.Math.Decide.{dec_lt}
-
-use Rattle.heap_words.specs.Layouts.{Sizes, IsLayout, first_word, regions_of}
+use Rattle.heap_words.specs.Layouts.{Sizes, IsLayout, first_word}
 use Rattle.heap_words.specs.FieldWords.{word_of}
 use Rattle.heap_words.specs.declared.field_word.FieldWord.{FieldWord}
-use Rattle.heap_words.specs.declared.field_word.FieldWord.TheVariants.{Num, Link}
+use Rattle.heap_words.specs.declared.field_word.FieldWord.TheVariants.{Num}
 use Rattle.call_steps.specs.StepLaws.{Put}
 use Rattle.gc_tool.specs.Headers.{plain_header}
 use Rattle.gc_tool.specs.Lawful.{View, Stands, Laid, IsOwn, IsObject, len_of, base}

@@ -1,5 +1,5 @@
 -- What a thread is in the midst of.
-use Rattle.std.specs.Prelude.{◌≡◌, ◌≢◌, ℕ, refl}
+use Rattle.std.specs.Prelude.{◌≡◌, ℕ, refl}
 use Rattle.std.proofs.Common.{ap}
 use Rattle.call_steps.specs.declared.step.Step.{Step}
 use Rattle.call_steps.specs.declared.step.Step.TheVariants.{Store, Ended}

@@ -4,7 +4,6 @@ use Rattle.std.specs.List.{All}
 use Rattle.std.specs.Str.{bytes_eq}
 use Rattle.heap_script.specs.declared.script.Command.{Command}
 use Rattle.heap_script.specs.declared.script.Command.TheVariants.{New}
-use Rattle.heap_script.specs.declared.script.Line.{Line}
 use Rattle.heap_script.specs.Scripts.{Reading, Fits}
 use Rattle.heap_script.specs.Text.{text_of}
 use Rattle.heap_script.specs.Words.{number_of}

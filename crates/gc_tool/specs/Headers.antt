@@ -1,5 +1,5 @@
 -- The packed forms of headers and region words that objects at rest need.
-use Rattle.std.specs.Prelude.{◌≡◌, ℕ, ◌+◌, ◌*◌, ◌/◌, ◌%◌, ◌<◌}
+use Rattle.std.specs.Prelude.{ℕ, ◌+◌, ◌*◌, ◌/◌, ◌%◌}
 
 -- the word of a region to which this pass appends objects
 abbrev pub taken : ℕ → ℕ

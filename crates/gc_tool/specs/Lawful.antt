@@ -1,5 +1,5 @@
 -- What holds of the world between any two steps: the words say what the history says.
-use Rattle.std.specs.Prelude.{◌≡◌, ℕ, zero, suc, ◌+◌, ◌<◌, ◌≤◌, ◌^◌, ◌⊎◌, List, [], ◌∷◌, ◌++◌, length, map, drop, take, false, Bool, Option, Some, None, is_some, slice_get, slice_index_or, sum_by}
+use Rattle.std.specs.Prelude.{◌≡◌, ℕ, ◌+◌, ◌<◌, ◌≤◌, ◌^◌, ◌⊎◌, List, length, map, drop, take, false, Some, None, is_some, slice_get, slice_index_or, sum_by}
 use Rattle.std.specs.List.{All}
 use Rattle.heap_words.specs.Layouts.{Sizes, words_of, region_at, first_word}
 use Rattle.heap_words.specs.FieldWords.{word_of}

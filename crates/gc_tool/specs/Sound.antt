@@ -1,5 +1,5 @@
 -- What a thread's own code relies on.
-use Rattle.std.specs.Prelude.{ℕ, ◌<◌, ◌≤◌}
+use Rattle.std.specs.Prelude.{◌<◌, ◌≤◌}
 use Rattle.std.specs.List.{All}
 use Rattle.heap_words.specs.FieldWords.{IsFieldWord}
 use Rattle.heap_script.specs.declared.script.Command.{Command}

@@ -1,5 +1,5 @@
 -- A thread, and what it makes of the end of a machine.
-use Rattle.std.specs.Prelude.{ℕ, ◌+◌, List, [], ◌∷◌, ◌++◌, nat_lt, if◌then◌else◌, slice_index_or, slice_set, Option, Some, None, replicate}
+use Rattle.std.specs.Prelude.{ℕ, ◌+◌, List, slice_index_or, slice_set, Option, Some, None}
 use Rattle.heap_words.specs.Layouts.{Sizes}
 use Rattle.heap_words.specs.FieldWords.{word_of}
 use Rattle.heap_words.specs.declared.operand.Operand.{Operand}

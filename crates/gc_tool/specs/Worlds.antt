@@ -1,8 +1,5 @@
 -- One thread and the words on which it steps.
-use Rattle.std.specs.Prelude.{◌≡◌, ◌≢◌, ℕ, zero, suc, ◌+◌, ◌<◌, ◌≤◌, true, false, List, [], ◌∷◌, ◌++◌, length, nat_lt, if◌then◌else◌, Bool, Option, Some, None, slice_get, slice_set, replicate}
-use Rattle.heap_words.specs.Layouts.{Sizes, words_of}
-use Rattle.heap_words.specs.Layouts as layouts
-use Rattle.heap_words.specs.declared.field_word.FieldWord.TheVariants.{Num, Link}
+use Rattle.std.specs.Prelude.{◌≢◌, ℕ, zero, suc, ◌+◌, ◌<◌, ◌≤◌, true, false, List, [], ◌∷◌, ◌++◌, length, if◌then◌else◌, Bool, Option, Some, None, slice_get}
 use Rattle.heap_history.specs.declared.call.Entry.{Entry}
 use Rattle.heap_script.specs.declared.script.Line.{Line}
 use Rattle.heap_script.specs.declared.answer.Answer.{Answer}
@@ -11,16 +8,13 @@ use Rattle.std.specs.List.{All}
 use Rattle.call_steps.specs.declared.step.Step.TheVariants as Step
 use Rattle.call_steps.specs.Steps.{applied, found_by, IsInside}
 use Rattle.gc_tool.specs.Sound.{IsReady, IsPlainCommand}
-use Rattle.gc_tool.specs.declared.new_object.Room.{Room}
 use Rattle.gc_tool.specs.declared.thread.Thread.{Thread}
 use Rattle.gc_tool.specs.declared.thread.Settled.{Settled}
 use Rattle.gc_tool.specs.declared.thread.Settled.TheVariants as settled
-use Rattle.gc_tool.specs.declared.poll.PollMachine.TheVariants as poll
 use Rattle.gc_tool.specs.declared.doing.Doing.{Doing}
 use Rattle.gc_tool.specs.declared.doing.Doing.TheVariants as doing
 use Rattle.gc_tool.specs.declared.world.World.{World}
 use Rattle.gc_tool.specs.Doings.{asks_of, fed_of}
-use Rattle.gc_tool.specs.Tellings.{Telling}
 use Rattle.gc_tool.specs.Threads.{settled_of}
 use Rattle.gc_tool.specs.Openings.{machine_after, opening_words, opening_thread}
 
