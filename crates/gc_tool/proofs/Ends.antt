@@ -12,7 +12,6 @@ use Rattle.heap_history.specs.Histories.{pass_of}
 use Rattle.heap_script.specs.declared.script.Command.{Command}
 use Rattle.heap_script.specs.declared.script.Command.TheVariants as commands
 use Rattle.heap_script.specs.declared.script.Line.{Line}
-use Rattle.heap_script.specs.declared.answer.Answer.{Answer}
 use Rattle.heap_script.specs.Scripts.{Reading}
 use Rattle.call_steps.specs.declared.step.Step.TheVariants.{Ended}
 use Rattle.call_steps.specs.Steps.{found_by}
@@ -39,7 +38,7 @@ use Rattle.gc_tool.specs.Writes as writes
 use Rattle.gc_tool.specs.Doings.{asks_of, fed_of}
 use Rattle.gc_tool.specs.Threads.{held, settled_by, begun, access, new_ended, read_ended, write_ended}
 use Rattle.gc_tool.specs.Openings.{machine_after}
-use Rattle.gc_tool.specs.Worlds.{turns, turn_of, stepped, taken_in, settled_at, is_over, opening_world, CanTurn}
+use Rattle.gc_tool.specs.Worlds.{turns, turn_of, stepped, taken_in, settled_at, is_over, opening_world}
 use Rattle.gc_tool.specs.Forms.{IsBuilt}
 use Rattle.gc_tool.specs.Lawful.{Lawful}
 use Rattle.gc_tool.specs.Runs.{enough_steps, ends_within}

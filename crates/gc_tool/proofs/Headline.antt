@@ -1,20 +1,19 @@
 -- The entries and answers of a world whose thread has ended are those of a legal run.
-use Rattle.std.proofs.Common.{◌≡◌, ◌≢◌, ℕ, zero, suc, ◌+◌, ◌<◌, ◌≤◌, List, [], ◌∷◌, ◌++◌, length, take, drop, map, Bool, true, false, cond, eqb, Option, Some, None, refl, sym, ap, ◌∙◌, subst, arith, eq-eqb}
-use Rattle.std.specs.Prelude.{slice_get, if◌then◌else◌}
+use Rattle.std.proofs.Common.{◌≡◌, ℕ, ◌≤◌, List, [], ◌∷◌, length, take, drop, true, eqb, Option, Some, None, refl, sym, ap, ◌∙◌, subst, arith, eq-eqb}
+use Rattle.std.specs.Prelude.{slice_get}
 use Rattle.std.specs.List.{All, filter}
 use Rattle.std.proofs.Math.Seq.{take-length, drop-length}
 use Rattle.std.proofs.lemmas.List.Elements.{All-filter, All-map, All-head, All-tail}
 use Rattle.heap_words.specs.Layouts.{Sizes}
 use Rattle.heap_history.specs.declared.call.Call.{Call}
 use Rattle.heap_history.specs.declared.call.Entry.{Entry}
-use Rattle.heap_history.specs.FixedHeaps.{opening}
-use Rattle.heap_history.specs.Histories.{IsAccepted, changes, calls, is_change, made_by, pass_of}
+use Rattle.heap_history.specs.Histories.{changes, is_change, made_by, pass_of}
 use Rattle.heap_words.specs.declared.field_word.FieldWord.{FieldWord}
 use Rattle.heap_script.specs.declared.script.Command.{Command}
 use Rattle.heap_script.specs.declared.script.Line.{Line}
 use Rattle.heap_script.specs.declared.answer.Answer.{Answer}
 use Rattle.heap_script.specs.Scripts.{Reading, LineFits}
-use Rattle.heap_script.specs.Allowed.{IsAllowed, IsAllowedThread, IsRun, first_seat, commands_of}
+use Rattle.heap_script.specs.Allowed.{IsAllowed, IsRun, first_seat, commands_of}
 use Rattle.gc_tool.specs.declared.new_object.Room.{Room}
 use Rattle.gc_tool.specs.declared.doing.Doing.{Doing}
 use Rattle.gc_tool.specs.declared.doing.Doing.TheVariants as doing
@@ -26,7 +25,7 @@ use Rattle.gc_tool.specs.Worlds.{turns, is_done, is_over, stepped, taken_in, set
 use Rattle.gc_tool.specs.Texts.{replay_text}
 use Rattle.gc_tool.specs.Forms.{IsBuilt}
 use Rattle.gc_tool.specs.Lawful.{Lawful, View, IsAt, commands_in}
-use Rattle.gc_tool.specs.Runs.{world_after, ends_within, text_of_world, IsLegal, IsOutput}
+use Rattle.gc_tool.specs.Runs.{world_after, ends_within, text_of_world, IsOutput}
 use Rattle.gc_tool.proofs.Turning.{opening_lawful, turn_keeps}
 use Rattle.gc_tool.proofs.Ends.{turns_keep, entries_own}
 

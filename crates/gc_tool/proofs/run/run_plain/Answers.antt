@@ -1,6 +1,4 @@
-use Rattle.std.proofs.Common.{◌≡◌, ◌++◌, ◌⊎◌, inl, inr, List, ℕ, refl, sym, ◌∙◌, subst}
-use Rattle.gc_tool.specs.declared.status.Status.{Status}
-use Rattle.gc_tool.specs.declared.status.Status.TheVariants.{Done, OutOfMemory}
+use Rattle.std.proofs.Common.{inl, inr, List, ℕ, refl, sym, ◌∙◌, subst}
 use Rattle.gc_tool.specs.Outside.{AppendsPrefix}
 use Rattle.gc_tool.proofs.Causes.{stopped, played, after_enough}
 use Rattle.gc_tool.proofs.run.run_plain.Goals as goal
