@@ -34,8 +34,10 @@ fn replay(alloc: Global, script: Script, steps: u64) -> Result<Vec<u8>, Status>
 
 /// Reads a script to the end, and plays it.
 fn output_of<S: Source>(alloc: Global, steps: u64, source: &mut S) -> Result<Vec<u8>, Status>
-    ensures output { IfOk result (λ text. (script : Reading) × ReadsScript (S.left source.old) (S.left source.new) script × IsOutput script steps text.items) }
-    ensures cause { IfErr result (λ status. IsCause status (S.left source.old) (S.left source.new) (S.faults source.old) (S.faults source.new) steps) }
+    ensures output { IfOk result (λ text. (script : Reading)
+        × ReadsScript (S.left source.old) (S.left source.new) script × IsOutput script steps text.items) }
+    ensures cause { IfErr result (λ status. IsCause status (S.left source.old) (S.left source.new)
+        (S.faults source.old) (S.faults source.new) steps) }
     ensures too_long { Gave (S.left source.old) (S.left source.new)
         (λ given. IsErrOf result Status.TooLong ↔ (INPUT_LIMIT < length given)) }
     ensures never_falls { S.faults source.old ≤ S.faults source.new }
