@@ -1,0 +1,5 @@
+pub mod Spots
+pub mod PlainExchanges
+pub mod Reads
+pub mod Writes
+pub mod Exchanges

@@ -1,0 +1,3 @@
+//! Calls played by hand on plain words.
+
+use super::*;
