@@ -28,9 +28,14 @@ pub enum ExchangeMachine {
         word: u64,
     },
     /// Exchanges the field's word. It has ended where this exchange has.
-    Field { spot: Spot, exchange: PlainExchange },
+    Field {
+        spot: Spot,
+        exchange: PlainExchange,
+    },
     /// It has ended: the field is at or past `len`, the object's number of fields.
-    NoField { len: u32 },
+    NoField {
+        len: u32,
+    },
 }
 
 impl ExchangeMachine {

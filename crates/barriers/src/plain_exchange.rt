@@ -150,7 +150,9 @@ impl Machine for PlainExchange {
     fn feed(&mut self, found: u64) {
         *self = match *self {
             PlainExchange::Load(swap) => compared(swap, found),
-            PlainExchange::Try { wanted, .. } if found == wanted => { PlainExchange::Ended(ExchangeEnd::Done) }
+            PlainExchange::Try { wanted, .. } if found == wanted => {
+                PlainExchange::Ended(ExchangeEnd::Done)
+            }
             PlainExchange::Try {
                 swap,
                 wanted,
