@@ -3,3 +3,6 @@ pub mod PlainExchanges
 pub mod Reads
 pub mod Writes
 pub mod Exchanges
+pub mod Meanings
+pub mod ReadMeanings
+pub mod WriteMeanings
