@@ -6,3 +6,5 @@ pub mod Exchanges
 pub mod Meanings
 pub mod ReadMeanings
 pub mod WriteMeanings
+pub mod PlainExchangeMeanings
+pub mod ExchangeMeanings
