@@ -8,3 +8,5 @@ pub mod ReadMeanings
 pub mod WriteMeanings
 pub mod PlainExchangeMeanings
 pub mod ExchangeMeanings
+pub mod PlainExchangeCauses
+pub mod Causes

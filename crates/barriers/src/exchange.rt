@@ -8,6 +8,7 @@ ghost use Rattle.barriers.specs.Spots.{spot_of};
 ghost use Rattle.barriers.specs.Exchanges.{asks_of, end_of};
 
 use crate::ends::{ExchangeEnd, TryRefusal};
+use crate::heap_call::HeapCall;
 use crate::packed::len_in;
 use crate::plain_exchange::PlainExchange;
 use crate::spot::Spot;
@@ -131,4 +132,14 @@ impl CallMachine for ExchangeMachine {
             ExchangeMachine::NoField { .. } => 0,
         }
     }
+}
+
+impl HeapCall for ExchangeMachine {
+    ghost use Rattle.barriers.specs.ExchangeMeanings as meanings;
+
+    ghost meaning = { meanings.meaning };
+
+    ghost over = { meanings.over };
+
+    ghost means = { meanings.means };
 }

@@ -4,6 +4,7 @@
 
 mod ends;
 mod exchange;
+mod heap_call;
 mod packed;
 mod plain_exchange;
 mod read;
@@ -13,6 +14,7 @@ mod write;
 
 pub use ends::{AccessRefusal, ExchangeEnd, NewRefusal, ReadEnd, TryRefusal, WriteEnd};
 pub use exchange::ExchangeMachine;
+pub use heap_call::HeapCall;
 pub use plain_exchange::{PlainExchange, Swap, TriesLeft};
 pub use read::ReadMachine;
 pub use room::Room;

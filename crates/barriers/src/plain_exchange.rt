@@ -7,6 +7,7 @@ ghost use Rattle.barriers.specs.declared.plain_exchange.PlainExchange.TheVariant
 ghost use Rattle.barriers.specs.PlainExchanges.{asks_of, end_of, left_of, exchanges_left, compared, lost, again};
 
 use crate::ends::{ExchangeEnd, TryRefusal};
+use crate::heap_call::HeapCall;
 use crate::packed::held_by;
 use call_steps::{CallMachine, Machine, Step};
 use heap_words::{FieldWord, same_value};
@@ -184,4 +185,14 @@ impl CallMachine for PlainExchange {
             PlainExchange::Ended(_) => 0,
         }
     }
+}
+
+impl HeapCall for PlainExchange {
+    ghost use Rattle.barriers.specs.PlainExchangeMeanings as meanings;
+
+    ghost meaning = { meanings.meaning };
+
+    ghost over = { meanings.over };
+
+    ghost means = { meanings.means };
 }

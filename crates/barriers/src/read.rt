@@ -7,6 +7,7 @@ ghost use Rattle.barriers.specs.Spots.{spot_of};
 ghost use Rattle.barriers.specs.Reads.{asks_of, end_of};
 
 use crate::ends::ReadEnd;
+use crate::heap_call::HeapCall;
 use crate::packed::{held_by, len_in};
 use crate::spot::Spot;
 use call_steps::{CallMachine, Machine, Step};
@@ -99,4 +100,14 @@ impl CallMachine for ReadMachine {
             ReadMachine::Ended(_) => 0,
         }
     }
+}
+
+impl HeapCall for ReadMachine {
+    ghost use Rattle.barriers.specs.ReadMeanings as meanings;
+
+    ghost meaning = { meanings.meaning };
+
+    ghost over = { meanings.over };
+
+    ghost means = { meanings.means };
 }

@@ -8,6 +8,7 @@ ghost use Rattle.barriers.specs.Spots.{spot_of};
 ghost use Rattle.barriers.specs.Writes.{asks_of, end_of};
 
 use crate::ends::{TryRefusal, WriteEnd};
+use crate::heap_call::HeapCall;
 use crate::packed::len_in;
 use crate::spot::Spot;
 use call_steps::{CallMachine, Machine, Step};
@@ -109,4 +110,14 @@ impl CallMachine for WriteMachine {
             WriteMachine::Ended(_) => 0,
         }
     }
+}
+
+impl HeapCall for WriteMachine {
+    ghost use Rattle.barriers.specs.WriteMeanings as meanings;
+
+    ghost meaning = { meanings.meaning };
+
+    ghost over = { meanings.over };
+
+    ghost means = { meanings.means };
 }
