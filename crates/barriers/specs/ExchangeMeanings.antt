@@ -8,7 +8,8 @@ use Rattle.barriers.specs.declared.plain_exchange.PlainExchange.{PlainExchange}
 use Rattle.barriers.specs.declared.plain_exchange.PlainExchange.TheVariants as plain
 use Rattle.barriers.specs.declared.exchange.ExchangeMachine.{ExchangeMachine}
 use Rattle.barriers.specs.declared.exchange.ExchangeMachine.TheVariants as exchange
-use Rattle.barriers.specs.Exchanges.{asks_of, fed_of}
+use Rattle.barriers.specs.Exchanges.{asks_of, fed_of, end_of}
+use Rattle.barriers.specs.Ends.{has_exchanged, seen_by_exchange}
 use Rattle.barriers.specs.PlainExchanges as at_word
 use Rattle.barriers.specs.PlainExchangeMeanings as at_word_meaning
 use Rattle.barriers.specs.Meanings.{Meaning, IsOver, Means}
@@ -43,26 +44,15 @@ looks_of (exchange.Header spot expected word) n = None
 looks_of (exchange.Field spot plainly) n = at_word_meaning.looks_of plainly n
 looks_of (exchange.NoField len) n = None
 
--- whether it is done
-abbrev pub changed_of : ExchangeMachine → Bool
-changed_of (exchange.Header spot expected word) = false
-changed_of (exchange.Field spot plainly) = at_word_meaning.changed_of plainly
-changed_of (exchange.NoField len) = false
-
--- the value that differs
-abbrev pub saw_of : ExchangeMachine → Option FieldWord
-saw_of (exchange.Header spot expected word) = None
-saw_of (exchange.Field spot plainly) = at_word_meaning.saw_of plainly
-saw_of (exchange.NoField len) = None
-
+-- it is done or has seen another value where the exchange of the field's word says so
 abbrev pub meaning : Meaning ExchangeMachine
 meaning = record {
   link = link_of;
   writes = writes_of;
   decides = decides_of;
   looks = looks_of;
-  changed = changed_of;
-  saw = saw_of;
+  changed = λ m. has_exchanged (end_of m);
+  saw = λ m. seen_by_exchange (end_of m);
 }
 
 ended_holds_none : (spot : Spot) (m : PlainExchange) → at_word.asks_of m ≡ Ended → link_until_end spot m ≡ None
@@ -84,8 +74,8 @@ over (exchange.NoField len) e = record { holds_none = refl; writes_none = refl; 
 
 -- after the header
 pub record AfterHeader (spot : Spot) (word : ℕ) (after : ExchangeMachine) : Type 0 where
-  pub unchanged : changed_of after ≡ false
-  pub unseen : saw_of after ≡ None
+  pub unchanged : has_exchanged (end_of after) ≡ false
+  pub unseen : seen_by_exchange (end_of after) ≡ None
   pub link : asks_of after ≢ Ended → link_of after ≡ Some (spot.birth, spot.at)
   pub word_stays : asks_of after ≢ Ended → writes_of after ≡ Some word
 

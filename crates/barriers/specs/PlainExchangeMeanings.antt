@@ -1,20 +1,17 @@
 -- What the exchange at one word means to the world around it.
 use Rattle.std.specs.Prelude.{◌≡◌, ◌≢◌, ℕ, ◌==◌, Bool, true, false, Option, Some, None, refl, if◌then◌else◌}
-use Rattle.std.proofs.Common.{eq-eqb}
 use prog.Atomic.{either}
-use Rattle.call_steps.specs.declared.step.Step.TheVariants.{Exchange, Ended}
-use Rattle.call_steps.specs.Steps.{put_by}
+use Rattle.call_steps.specs.declared.step.Step.TheVariants.{Ended}
 use Rattle.heap_words.specs.declared.field_word.FieldWord.{FieldWord}
 use Rattle.heap_words.specs.FieldWords.{field_at}
-use Rattle.barriers.specs.declared.ends.TryRefusal.TheVariants.{Raced}
-use Rattle.barriers.specs.declared.ends.ExchangeEnd.{ExchangeEnd}
-use Rattle.barriers.specs.declared.ends.ExchangeEnd.TheVariants.{Done, Differs, Refused}
+use Rattle.barriers.specs.declared.ends.ExchangeEnd.TheVariants.{Done, Differs}
 use Rattle.barriers.specs.declared.plain_exchange.Swap.{Swap}
 use Rattle.barriers.specs.declared.plain_exchange.TriesLeft.{TriesLeft}
 use Rattle.barriers.specs.declared.plain_exchange.TriesLeft.TheVariants.{Two, One, Zero}
 use Rattle.barriers.specs.declared.plain_exchange.PlainExchange.{PlainExchange}
 use Rattle.barriers.specs.declared.plain_exchange.PlainExchange.TheVariants as plain
-use Rattle.barriers.specs.PlainExchanges.{asks_of, fed_of, is_expected, compared, again, lost, tried}
+use Rattle.barriers.specs.PlainExchanges.{asks_of, fed_of, end_of, is_expected, again, lost}
+use Rattle.barriers.specs.Ends.{has_exchanged, seen_by_exchange}
 use Rattle.barriers.specs.Meanings.{Meaning, IsOver, Means}
 
 -- it will exchange for its word until it has ended
@@ -39,28 +36,6 @@ looks_of (plain.Load swap) n = other_value swap n
 looks_of (plain.Try swap wanted tries) n = if n == wanted then None else other_value swap n
 looks_of (plain.Ended end) n = None
 
--- whether this end is that of a change
-abbrev pub is_done : ExchangeEnd → Bool
-is_done Done = true
-is_done (Differs w) = false
-is_done (Refused why) = false
-
--- what this end says that the word holds
-abbrev pub seen : ExchangeEnd → Option FieldWord
-seen Done = None
-seen (Differs w) = Some w
-seen (Refused why) = None
-
-abbrev pub changed_of : PlainExchange → Bool
-changed_of (plain.Load swap) = false
-changed_of (plain.Try swap wanted tries) = false
-changed_of (plain.Ended end) = is_done end
-
-abbrev pub saw_of : PlainExchange → Option FieldWord
-saw_of (plain.Load swap) = None
-saw_of (plain.Try swap wanted tries) = None
-saw_of (plain.Ended end) = seen end
-
 -- it holds a place, and no link
 abbrev pub meaning : Meaning PlainExchange
 meaning = record {
@@ -68,8 +43,8 @@ meaning = record {
   writes = writes_of;
   decides = decides_of;
   looks = looks_of;
-  changed = changed_of;
-  saw = saw_of;
+  changed = λ m. has_exchanged (end_of m);
+  saw = λ m. seen_by_exchange (end_of m);
 }
 
 pub over : (m : PlainExchange) → asks_of m ≡ Ended → IsOver meaning m
@@ -79,8 +54,8 @@ over (plain.Ended end) e = record { holds_none = refl; writes_none = refl; decid
 
 -- the machine after a step with this decision and this look
 pub record After (swap : Swap) (decided : Bool) (looked : Option FieldWord) (after : PlainExchange) : Type 0 where
-  pub changed : changed_of after ≡ decided
-  pub saw : saw_of after ≡ looked
+  pub changed : has_exchanged (end_of after) ≡ decided
+  pub saw : seen_by_exchange (end_of after) ≡ looked
   pub word_stays : asks_of after ≢ Ended → writes_of after ≡ Some swap.word
 
 after_load : (swap : Swap) (n : ℕ) (b : Bool) → After swap false (if b then None else Some (field_at n)) (if b then plain.Try swap n Two else plain.Ended (Differs (field_at n)))

@@ -5,10 +5,11 @@ use Rattle.heap_words.specs.declared.field_word.FieldWord.{FieldWord}
 use Rattle.heap_words.specs.FieldWords.{field_at}
 use Rattle.object_headers.specs.Headers.{header_at}
 use Rattle.barriers.specs.declared.spot.Spot.{Spot}
-use Rattle.barriers.specs.declared.ends.ReadEnd.TheVariants.{Got, NoField}
+use Rattle.barriers.specs.declared.ends.ReadEnd.TheVariants.{NoField}
 use Rattle.barriers.specs.declared.read.ReadMachine.{ReadMachine}
 use Rattle.barriers.specs.declared.read.ReadMachine.TheVariants as read
-use Rattle.barriers.specs.Reads.{asks_of, fed_of, by_len}
+use Rattle.barriers.specs.Reads.{asks_of, fed_of, end_of}
+use Rattle.barriers.specs.Ends.{seen_by_read}
 use Rattle.barriers.specs.Meanings.{Meaning, IsOver, Means}
 
 -- it holds its link until it has ended
@@ -23,13 +24,6 @@ looks_of (read.Header spot) n = None
 looks_of (read.Field spot) n = Some (field_at n)
 looks_of (read.Ended end) n = None
 
--- what it got
-abbrev pub saw_of : ReadMachine → Option FieldWord
-saw_of (read.Header spot) = None
-saw_of (read.Field spot) = None
-saw_of (read.Ended (Got w)) = Some w
-saw_of (read.Ended (NoField len)) = None
-
 -- it writes nothing
 abbrev pub meaning : Meaning ReadMachine
 meaning = record {
@@ -38,7 +32,7 @@ meaning = record {
   decides = λ m n. false;
   looks = looks_of;
   changed = λ m. false;
-  saw = saw_of;
+  saw = λ m. seen_by_read (end_of m);
 }
 
 pub over : (m : ReadMachine) → asks_of m ≡ Ended → IsOver meaning m
@@ -47,7 +41,7 @@ over (read.Field spot) e = absurd cc
 over (read.Ended end) e = record { holds_none = refl; writes_none = refl; decides_none = λ n. refl; looks_none = λ n. refl }
 
 -- after the header
-after_header : (spot : Spot) (len n : ℕ) (b : Bool) → let after : ReadMachine = (if b then read.Field spot else read.Ended (NoField len)) in (saw_of after ≡ None) × (asks_of after ≢ Ended → link_of after ≡ Some (spot.birth, spot.at))
+after_header : (spot : Spot) (len n : ℕ) (b : Bool) → let after : ReadMachine = (if b then read.Field spot else read.Ended (NoField len)) in (seen_by_read (end_of after) ≡ None) × (asks_of after ≢ Ended → link_of after ≡ Some (spot.birth, spot.at))
 after_header spot len n true = (refl, λ on. refl)
 after_header spot len n false = (refl, λ on. absurd (on refl))
 

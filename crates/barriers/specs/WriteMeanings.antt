@@ -4,10 +4,11 @@ use Rattle.call_steps.specs.declared.step.Step.TheVariants.{Ended}
 use Rattle.object_headers.specs.Headers.{header_at}
 use Rattle.barriers.specs.declared.spot.Spot.{Spot}
 use Rattle.barriers.specs.declared.ends.TryRefusal.TheVariants.{NoField}
-use Rattle.barriers.specs.declared.ends.WriteEnd.TheVariants.{Wrote, Refused}
+use Rattle.barriers.specs.declared.ends.WriteEnd.TheVariants.{Refused}
 use Rattle.barriers.specs.declared.write.WriteMachine.{WriteMachine}
 use Rattle.barriers.specs.declared.write.WriteMachine.TheVariants as write
-use Rattle.barriers.specs.Writes.{asks_of, fed_of}
+use Rattle.barriers.specs.Writes.{asks_of, fed_of, end_of}
+use Rattle.barriers.specs.Ends.{has_written}
 use Rattle.barriers.specs.Meanings.{Meaning, IsOver, Means}
 
 -- it holds its link until it has ended
@@ -28,13 +29,6 @@ decides_of (write.Header spot word) n = false
 decides_of (write.Field spot word) n = true
 decides_of (write.Ended end) n = false
 
--- whether it wrote
-abbrev pub changed_of : WriteMachine → Bool
-changed_of (write.Header spot word) = false
-changed_of (write.Field spot word) = false
-changed_of (write.Ended Wrote) = true
-changed_of (write.Ended (Refused why)) = false
-
 -- it sees nothing
 abbrev pub meaning : Meaning WriteMachine
 meaning = record {
@@ -42,7 +36,7 @@ meaning = record {
   writes = writes_of;
   decides = decides_of;
   looks = λ m n. None;
-  changed = changed_of;
+  changed = λ m. has_written (end_of m);
   saw = λ m. None;
 }
 
@@ -53,7 +47,7 @@ over (write.Ended end) e = record { holds_none = refl; writes_none = refl; decid
 
 -- after the header
 pub record AfterHeader (spot : Spot) (word : ℕ) (after : WriteMachine) : Type 0 where
-  pub unchanged : changed_of after ≡ false
+  pub unchanged : has_written (end_of after) ≡ false
   pub link : asks_of after ≢ Ended → link_of after ≡ Some (spot.birth, spot.at)
   pub word_stays : asks_of after ≢ Ended → writes_of after ≡ Some word
 

@@ -4,7 +4,8 @@ ghost use Rattle.std.specs.Prelude.{◌≡◌, ◌≤◌, ◌↔◌, IsSome};
 ghost use Rattle.call_steps.specs.declared.step.Step.TheVariants.{Ended as StepEnded};
 ghost use Rattle.heap_words.specs.FieldWords.{field_at, is_same_value};
 ghost use Rattle.barriers.specs.declared.plain_exchange.PlainExchange.TheVariants.{Load};
-ghost use Rattle.barriers.specs.PlainExchanges.{asks_of, end_of, left_of, exchanges_left, compared, lost, again};
+ghost use Rattle.barriers.specs.PlainExchanges.{asks_of, end_of, left_of, exchanges_left};
+ghost use Rattle.barriers.specs.PlainExchanges.{compared as compared_by, lost as lost_by, again as again_by};
 
 use crate::ends::{ExchangeEnd, TryRefusal};
 use crate::heap_call::HeapCall;
@@ -31,6 +32,8 @@ pub enum TriesLeft {
 
 /// Loads a word and exchanges it for the new one where it has the expected value. An exchange that loses
 /// has found what the next one wants. At most 4 steps.
+///
+/// A word that holds neither a number nor a link counts as the number 0; no field holds such a word.
 #[derive(Clone, Copy, Debug, PartialEq, Eq)]
 pub enum PlainExchange {
     /// Loads the word.
@@ -84,7 +87,7 @@ impl PlainExchange {
 
 // With the loaded word at hand.
 fn compared(swap: Swap, found: u64) -> PlainExchange
-    ensures { result ≡ Rattle.barriers.specs.PlainExchanges.compared swap found }
+    ensures { result ≡ compared_by swap found }
 {
     let held = held_by(found);
     if !same_value(swap.expected, held) {
@@ -99,7 +102,7 @@ fn compared(swap: Swap, found: u64) -> PlainExchange
 
 // After an exchange that wanted another word than it found.
 fn lost(swap: Swap, wanted: u64, tries: TriesLeft, found: u64) -> PlainExchange
-    ensures { result ≡ Rattle.barriers.specs.PlainExchanges.lost swap wanted tries found }
+    ensures { result ≡ lost_by swap wanted tries found }
 {
     let held = held_by(found);
     if !same_value(swap.expected, held) {
@@ -110,7 +113,7 @@ fn lost(swap: Swap, wanted: u64, tries: TriesLeft, found: u64) -> PlainExchange
 
 // The word found has the expected value too.
 fn again(swap: Swap, loaded: u64, tries: TriesLeft, found: u64) -> PlainExchange
-    ensures { result ≡ Rattle.barriers.specs.PlainExchanges.again swap loaded tries found }
+    ensures { result ≡ again_by swap loaded tries found }
 {
     let tries = match tries {
         TriesLeft::Two => TriesLeft::One,
