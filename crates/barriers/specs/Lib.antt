@@ -1,0 +1,13 @@
+pub mod Causes
+pub mod Ends
+pub mod ExchangeMeanings
+pub mod Exchanges
+pub mod Meanings
+pub mod PlainExchangeCauses
+pub mod PlainExchangeMeanings
+pub mod PlainExchanges
+pub mod ReadMeanings
+pub mod Reads
+pub mod Spots
+pub mod WriteMeanings
+pub mod Writes

@@ -1,0 +1,123 @@
+//! A write of a field.
+
+ghost use Rattle.std.specs.Prelude.{◌≡◌, ◌<◌, ◌≤◌, ◌^◌, ◌↔◌, IsSome};
+ghost use Rattle.call_steps.specs.declared.step.Step.TheVariants.{Ended as StepEnded};
+ghost use Rattle.heap_words.specs.FieldWords.{field_of};
+ghost use Rattle.barriers.specs.declared.write.WriteMachine.TheVariants.{Header};
+ghost use Rattle.barriers.specs.Spots.{spot_of};
+ghost use Rattle.barriers.specs.Writes.{asks_of, end_of};
+
+use crate::ends::{TryRefusal, WriteEnd};
+use crate::heap_call::HeapCall;
+use crate::packed::len_in;
+use crate::spot::Spot;
+use call_steps::{CallMachine, Machine, Step};
+
+/// Loads the header, and then stores the word in the field. At most 2 steps.
+///
+/// The object is taken to be at rest, where its link says: its header is `Plain` or `Kept`. Any other
+/// state is treated as these are.
+#[derive(Clone, Copy, Debug, PartialEq, Eq)]
+pub enum WriteMachine {
+    /// Loads the header.
+    Header { spot: Spot, word: u64 },
+    /// Stores the word.
+    Field { spot: Spot, word: u64 },
+    Ended(WriteEnd),
+}
+
+impl WriteMachine {
+    /// The write of a field of the object `birth`, which stands at `at`. The field number may be any;
+    /// the word is to be the packed word of a number or a link.
+    pub fn new(birth: u32, at: u32, field: u32, word: u64) -> WriteMachine
+        requires near { at < 2 ^ 20 }
+        requires packed { word < 2 ^ 62 }
+        requires value { IsSome (field_of word) }
+        ensures { result ≡ Header (spot_of birth at field) word }
+    {
+        WriteMachine::Header {
+            spot: Spot::new(birth, at, field),
+            word,
+        }
+    }
+
+    /// What the write ended with, and `None` before its end.
+    pub fn end(&self) -> Option<WriteEnd>
+        ensures value { result ≡ end_of self.now }
+        ensures ended { IsSome result ↔ (asks_of self.now ≡ StepEnded) }
+    {
+        match *self {
+            WriteMachine::Header { .. } | WriteMachine::Field { .. } => None,
+            WriteMachine::Ended(end) => Some(end),
+        }
+    }
+}
+
+impl Machine for WriteMachine {
+    ghost use Rattle.barriers.specs.Writes.{asks_of, fed_of, blind_of};
+
+    ghost asks = { asks_of };
+
+    ghost fed = { fed_of };
+
+    ghost blind = { blind_of };
+
+    fn ask(&self) -> Step {
+        match *self {
+            WriteMachine::Header { spot, .. } => Step::Load { at: spot.at },
+            WriteMachine::Field { spot, word } => Step::Store {
+                at: spot.place,
+                put: word,
+            },
+            WriteMachine::Ended(_) => Step::Ended,
+        }
+    }
+
+    fn feed(&mut self, found: u64) {
+        *self = match *self {
+            WriteMachine::Header { spot, word } => {
+                let len = len_in(found);
+                if spot.field < len {
+                    WriteMachine::Field { spot, word }
+                } else {
+                    WriteMachine::Ended(WriteEnd::Refused(TryRefusal::NoField { len }))
+                }
+            }
+            WriteMachine::Field { .. } => WriteMachine::Ended(WriteEnd::Wrote),
+            WriteMachine::Ended(end) => WriteMachine::Ended(end),
+        };
+    }
+}
+
+impl CallMachine for WriteMachine {
+    ghost use Rattle.barriers.specs.Writes.{left_of, none_left_of, some_left_of, falls_of};
+
+    ghost steps_left = { left_of };
+
+    ghost none_left = { none_left_of };
+
+    ghost some_left = { some_left_of };
+
+    ghost falls = { falls_of };
+
+    fn left(&self) -> u32
+        ensures bound { result ≡ left_of self.now }
+        ensures few { result ≤ 2 }
+    {
+        match self {
+            WriteMachine::Header { .. } => 2,
+            WriteMachine::Field { .. } => 1,
+            WriteMachine::Ended(_) => 0,
+        }
+    }
+}
+
+impl HeapCall for WriteMachine {
+    ghost use Rattle.barriers.specs.WriteMeanings as meanings;
+
+    ghost meaning = { meanings.meaning };
+
+    ghost over = { meanings.over };
+
+    ghost means = { meanings.means };
+}
