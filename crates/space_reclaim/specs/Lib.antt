@@ -1,0 +1,4 @@
+pub mod RegionWords
+pub mod RegionWordLaws
+pub mod OwnRegions
+pub mod Claims
