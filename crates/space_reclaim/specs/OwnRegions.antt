@@ -1,5 +1,5 @@
 -- The regions of a pass's own, and the round that it makes of them.
-use Rattle.std.specs.Prelude.{ℕ, ◌+◌, ◌*◌, ◌-◌, ◌<◌, ◌≤◌, nat_lt, Option, Some, None, if◌then◌else◌}
+use Rattle.std.specs.Prelude.{ℕ, ◌+◌, ◌*◌, ◌-◌, ◌≤◌, nat_lt, Option, Some, None, if◌then◌else◌}
 use Rattle.heap_words.specs.Layouts.{Sizes}
 
 -- the first of them

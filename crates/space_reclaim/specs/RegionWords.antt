@@ -1,5 +1,5 @@
 -- Region words: what a region is used for, and by which pass, in one word.
-use Rattle.std.specs.Prelude.{◌≡◌, ◌≢◌, ℕ, ◌+◌, ◌*◌, ◌/◌, ◌%◌, ◌^◌, ◌<◌, ◌⊎◌, ⊤, ◌&&◌, ◌==◌, Option, Some, None, unwrap_or, if◌then◌else◌}
+use Rattle.std.specs.Prelude.{◌≢◌, ℕ, ◌+◌, ◌*◌, ◌/◌, ◌%◌, ◌^◌, ◌<◌, ◌⊎◌, ⊤, ◌&&◌, ◌==◌, Option, Some, None, unwrap_or, if◌then◌else◌}
 use Rattle.space_reclaim.specs.declared.region_word.RegionWord.{RegionWord}
 use Rattle.space_reclaim.specs.declared.region_word.RegionWord.TheVariants.{Free, Taken, Filled, Source, Target}
 

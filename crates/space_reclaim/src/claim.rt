@@ -27,7 +27,7 @@ pub struct Round {
 }
 
 impl Round {
-    ghost use Rattle.heap_words.specs.Layouts.{IsPass};
+    ghost use Rattle.heap_words.specs.Layouts.{IsLayout, IsPass};
     ghost use Rattle.space_reclaim.specs.OwnRegions.{IsOwn};
     ghost use Rattle.space_reclaim.specs.Claims.{round_of, next_round, region_of};
 
@@ -35,7 +35,8 @@ impl Round {
     fn of_pass(layout: &Layout, pass: u32, last: Option<u32>) -> Round
         requires pass { IsPass layout.now pass }
         requires last { ForSome last (λ region. IsOwn layout.now pass region) }
-        ensures { result ≡ round_of layout.now pass last }
+        ensures round { result ≡ round_of layout.now pass last }
+        ensures within { IsLayout layout.now }
     {
         let first_own = layout.pool() + (pass - 1) * layout.quota();
         let last_own = first_own + (layout.quota() - 1);
@@ -75,7 +76,11 @@ impl Round {
         ensures { result ≡ next_round self.now }
     {
         Round {
-            at: if self.at < self.last_at { self.at + 1 } else { self.first_at },
+            at: if self.at < self.last_at {
+                self.at + 1
+            } else {
+                self.first_at
+            },
             ahead: self.ahead - 1,
             ..*self
         }
@@ -112,12 +117,17 @@ impl ClaimMachine {
     ghost use Rattle.space_reclaim.specs.declared.claim.ClaimMachine.TheVariants.{Look};
     ghost use Rattle.space_reclaim.specs.OwnRegions.{IsOwn};
     ghost use Rattle.space_reclaim.specs.Claims.{round_of, asks_of, end_of};
+    ghost use Rattle.space_reclaim.specs.ClaimRuns.{EndsWithCause};
 
     /// The claim of a pass that claimed the region `last` before, or none.
     pub fn new(layout: &Layout, pass: u32, last: Option<u32>) -> ClaimMachine
         requires pass { IsPass layout.now pass }
         requires last { ForSome last (λ region. IsOwn layout.now pass region) }
-        ensures { result ≡ Look (round_of layout.now pass last) }
+        ensures machine { result ≡ Look (round_of layout.now pass last) }
+
+        // It claims a region only by an exchange that found Free, and none is free only where each of
+        // the pass's own was found in use.
+        ensures cause { EndsWithCause layout.now pass result }
     {
         ClaimMachine::Look(Round::of_pass(layout, pass, last))
     }
@@ -192,3 +202,6 @@ impl CallMachine for ClaimMachine {
         }
     }
 }
+
+#[cfg(test)]
+mod tests;
