@@ -5,7 +5,7 @@ use Rattle.handshakes.specs.declared.phase_word.Phase.{Phase}
 use Rattle.handshakes.specs.declared.phase_word.Phase.TheVariants.{Free, Mark, Confirm, Copy, Fix, Retired}
 use Rattle.handshakes.specs.declared.phase_word.PhaseWord.{PhaseWord}
 use Rattle.handshakes.specs.Phases.{code_of, phase_of}
-use Rattle.handshakes.specs.PhaseWords.{IsPhaseWord, FitsPhase, word_of_phase, phase_word_of, phase_word_at, names_phase, HoldsNoPhase, phase_bits, cycle_bits, round_bits, bits_above}
+use Rattle.handshakes.specs.PhaseWords.{IsPhaseWord, FitsPhase, word_of_phase, phase_word_of, phase_word_at, names_phase, retired_word, HoldsNoPhase, phase_bits, cycle_bits, round_bits, bits_above}
 
 code_of-bound : (p : Phase) → code_of p < 6
 code_of-bound Free = omega arith
@@ -69,9 +69,9 @@ names-false w p a h = grind (arith, nat_tests)
 not_both : (w p a : ℕ) → (p ≡ 5 → w ≡ 5) → p < 6 → a ≡ 0 → (5 < p) ⊎ ((a ≢ 0) ⊎ ((p ≡ 5) × (w ≢ 5))) → ⊥
 not_both w p a retired phase above n = grind arith
 
-retired_word : (p : PhaseWord) → p.phase ≡ Retired → IsPhaseWord p → word_of_phase p ≡ 5
+word_of_retired : (p : PhaseWord) → p.phase ≡ Retired → IsPhaseWord p → word_of_phase p ≡ 5
 unfolding word_of_phase
-retired_word p e f =
+word_of_retired p e f =
     let parts : FitsPhase Retired p = subst (λ q. FitsPhase q p) e f.phase in
     let code : code_of p.phase ≡ 5 = ap code_of e in
     omega arith
@@ -88,7 +88,7 @@ names-packed : (p : PhaseWord) → IsPhaseWord p → names_phase (word_of_phase 
 unfolding names_phase names
 names-packed p f =
     names-true (word_of_phase p) (phase_bits (word_of_phase p)) (bits_above (word_of_phase p))
-    (λ e. retired_word p (retired_code p.phase (sym (phase_is p f) ∙ e)) f)
+    (λ e. word_of_retired p (retired_code p.phase (sym (phase_is p f) ∙ e)) f)
     (let P : ℕ → Type 0 = λ n. n < 6 in subst P (sym (phase_is p f)) (code_of-bound p.phase))
     (above_is p f)
 
@@ -187,3 +187,13 @@ word_of_phase-phase_word_of word = elim (known (names_phase word)) [
   | inl there ↦ rw (phase_word_of-true word there) (read-packs word (holds_phase word there))
   | inr none ↦ rw (phase_word_of-false word none) tt
 ]
+
+-- Retired has its word
+pub word_of_phase-retired : word_of_phase (record { phase = Retired; cycle = 0; round = 0 }) ≡ retired_word
+unfolding word_of_phase
+word_of_phase-retired = refl
+
+-- a word is Retired's exactly where it unpacks to Retired
+pub phase_word_of-retired : phase_word_of retired_word ≡ Some (record { phase = Retired; cycle = 0; round = 0 })
+unfolding phase_word_of names_phase phase_of
+phase_word_of-retired = refl

@@ -61,3 +61,7 @@ phase_word_of word =
 -- the same as a value alone, for proofs about words that are known to be those of phases: Free in cycle 0 where a word is that of none
 unfoldable pub phase_word_at : ℕ → PhaseWord
 phase_word_at word = unwrap_or (phase_word_of word) (record { phase = Free; cycle = 0; round = 0 })
+
+-- the word of Retired
+abbrev pub retired_word : ℕ
+retired_word = 5

@@ -31,6 +31,9 @@ pub struct PhaseWord {
     pub round: u32,
 }
 
+/// The word of `Retired`.
+pub(crate) const RETIRED: u64 = 5;
+
 /// The code of a phase, in bits 0 to 2.
 fn phase_code(phase: Phase) -> u64
     ensures code { result ≡ code_of phase }

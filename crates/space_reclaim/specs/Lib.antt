@@ -1,0 +1,6 @@
+pub mod RegionWords
+pub mod RegionWordLaws
+pub mod OwnRegions
+pub mod Claims
+pub mod ClaimRuns
+pub mod ClaimRunLaws
