@@ -1,9 +1,8 @@
 -- The look of the collector at one acknowledgement.
-use Rattle.std.specs.Prelude.{◌≡◌, ◌≢◌, ℕ, ◌<◌, ◌==◌, if◌then◌else◌, Bool, true, false, Option, Some, None, refl}
+use Rattle.std.specs.Prelude.{◌≡◌, ◌≢◌, ℕ, ◌<◌, ◌==◌, if◌then◌else◌, Option, Some, None, refl}
 use Rattle.std.proofs.Common.{lit<, arith}
 use Rattle.call_steps.specs.declared.step.Step.{Step}
 use Rattle.call_steps.specs.declared.step.Step.TheVariants.{Load, Store, Ended}
-use Rattle.heap_words.specs.Layouts.{ack_at}
 use Rattle.handshakes.specs.declared.answer.AwaitEnd.{AwaitEnd}
 use Rattle.handshakes.specs.declared.answer.AwaitEnd.TheVariants.{Answered, NotYet}
 use Rattle.handshakes.specs.declared.answer.AwaitEnd.TheVariants as answer

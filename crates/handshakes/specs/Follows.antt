@@ -4,7 +4,7 @@ use Rattle.std.proofs.Common.{lit<, arith}
 use Rattle.call_steps.specs.declared.step.Step.{Step}
 use Rattle.call_steps.specs.declared.step.Step.TheVariants.{Load, Store, Ended}
 use Rattle.heap_words.specs.declared.field_word.FieldWord.{FieldWord}
-use Rattle.heap_words.specs.declared.field_word.FieldWord.TheVariants.{Num, Link}
+use Rattle.heap_words.specs.declared.field_word.FieldWord.TheVariants.{Link}
 use Rattle.object_headers.specs.declared.header.State.{State}
 use Rattle.object_headers.specs.declared.header.State.TheVariants.{Forward}
 use Rattle.object_headers.specs.declared.header.Header.{Header}

@@ -9,7 +9,6 @@ use Rattle.heap_words.specs.Layouts.{phase_at, mark_at, ack_at}
 use Rattle.object_headers.specs.Headers.{header_at}
 use Rattle.handshakes.specs.declared.phase_word.Phase.{Phase}
 use Rattle.handshakes.specs.declared.phase_word.Phase.TheVariants.{Free, Mark, Confirm, Copy, Fix, Retired}
-use Rattle.handshakes.specs.declared.phase_word.PhaseWord.{PhaseWord}
 use Rattle.handshakes.specs.declared.pass_view.PassView.{PassView}
 use Rattle.handshakes.specs.declared.poll.Poll.{Poll}
 use Rattle.handshakes.specs.declared.poll.PollEnd.{PollEnd}

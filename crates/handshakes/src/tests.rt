@@ -165,6 +165,7 @@ fn retires_with_its_roots(rt: HostRuntime) -> Result<(), Fail> {
             acked: 8,
             mark: 0,
         };
+        assert!(rt; PhaseWord::unpack(8).is_some());
         let mut machine = RetireMachine::new(&layout, view, registers, region);
         assert_eq!(rt; play(&rt, &mut words, &mut machine), steps);
         let retired = PassView {
