@@ -2,9 +2,8 @@
 
 ghost use Rattle.std.specs.Prelude.{◌≡◌, ◌≤◌, ◌↔◌, IsSome};
 ghost use Rattle.call_steps.specs.declared.step.Step.TheVariants.{Ended as StepEnded};
-ghost use Rattle.heap_words.specs.FieldWords.{field_at, is_same_value};
 ghost use Rattle.barriers.specs.declared.plain_exchange.PlainExchange.TheVariants.{Load};
-ghost use Rattle.barriers.specs.PlainExchanges.{asks_of, end_of, left_of, exchanges_left};
+ghost use Rattle.barriers.specs.PlainExchanges.{asks_of, end_of, exchanges_left};
 ghost use Rattle.barriers.specs.PlainExchanges.{compared as compared_by, lost as lost_by, again as again_by};
 
 use crate::ends::{ExchangeEnd, TryRefusal};
