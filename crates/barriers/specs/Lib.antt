@@ -1,4 +1,5 @@
 pub mod Causes
+pub mod Ending
 pub mod Ends
 pub mod ExchangeMeanings
 pub mod Exchanges

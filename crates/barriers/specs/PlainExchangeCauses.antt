@@ -1,5 +1,6 @@
 -- Why the exchange at one word ends as it does, whatever others do meanwhile.
 use Rattle.std.specs.Prelude.{◌≡◌, ◌≢◌, ℕ, ◌==◌, Bool, true, false, Some, refl, if◌then◌else◌}
+use Rattle.std.specs.Option.{ForSome}
 use Rattle.std.proofs.Common.{sym, subst}
 use Rattle.std.proofs.lemmas.Bool.{eqb-false}
 use Rattle.call_steps.specs.declared.step.Step.TheVariants.{Ended}
@@ -12,6 +13,7 @@ use Rattle.barriers.specs.declared.plain_exchange.TriesLeft.{TriesLeft}
 use Rattle.barriers.specs.declared.plain_exchange.TriesLeft.TheVariants.{Two, One, Zero}
 use Rattle.barriers.specs.declared.plain_exchange.PlainExchange.{PlainExchange}
 use Rattle.barriers.specs.declared.plain_exchange.PlainExchange.TheVariants as plain
+use Rattle.barriers.specs.Ending.{EndsOnlyFor, after, kept}
 use Rattle.barriers.specs.PlainExchanges.{asks_of, fed_of, end_of, is_expected, compared, again, lost, tried}
 
 -- an exchange wanted the one word and found the other, which has the expected value too
@@ -57,6 +59,15 @@ pub IsFor-fed_of : (swap : Swap) (m : PlainExchange) (n : ℕ) → IsFor swap m 
 IsFor-fed_of swap (plain.Load its) n same = subst (λ (s : Swap). IsFor swap (compared s n)) (sym same) (for_compared swap n (is_expected swap n) refl)
 IsFor-fed_of swap (plain.Try its wanted tries) n both = subst (λ (s : Swap). IsFor swap (tried s wanted tries n)) (sym both.0) (for_tried swap wanted tries n (n == wanted) both.1 refl)
 IsFor-fed_of swap (plain.Ended end) n cause = cause
+
+-- one of this swap ends only so
+pub end_for : (swap : Swap) (m : PlainExchange) → IsFor swap m → ForSome (end_of m) (EndsFor swap)
+end_for swap (plain.Load its) is end e = absurd cc
+end_for swap (plain.Try its wanted tries) is end e = absurd cc
+end_for swap (plain.Ended its) is end e = let same : its ≡ end = cc in subst (EndsFor swap) same is
+
+pub cause_of : (swap : Swap) → EndsOnlyFor fed_of end_of (EndsFor swap) (plain.Load swap)
+cause_of swap found = end_for swap (after fed_of (plain.Load swap) found) (kept fed_of (IsFor swap) (IsFor-fed_of swap) (plain.Load swap) found refl)
 
 -- the step is an exchange with no further try, wants the one word, finds the other, and that is another word
 abbrev pub LosesLast : PlainExchange → ℕ → ℕ → ℕ → Type 0

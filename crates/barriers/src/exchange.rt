@@ -5,7 +5,9 @@ ghost use Rattle.call_steps.specs.declared.step.Step.TheVariants.{Ended as StepE
 ghost use Rattle.heap_words.specs.FieldWords.{field_of};
 ghost use Rattle.barriers.specs.declared.exchange.ExchangeMachine.TheVariants.{Header};
 ghost use Rattle.barriers.specs.Spots.{spot_of};
-ghost use Rattle.barriers.specs.Exchanges.{asks_of, end_of};
+ghost use Rattle.barriers.specs.Exchanges.{asks_of, fed_of, end_of};
+ghost use Rattle.barriers.specs.Ending.{EndsOnlyFor};
+ghost use Rattle.barriers.specs.Causes.{ExchangeEndsFor};
 
 use crate::ends::{ExchangeEnd, TryRefusal};
 use crate::heap_call::HeapCall;
@@ -46,7 +48,11 @@ impl ExchangeMachine {
         requires near { at < 2 ^ 20 }
         requires packed { word < 2 ^ 62 }
         requires value { IsSome (field_of word) }
-        ensures { result ≡ Header (spot_of birth at field) expected word }
+        ensures machine { result ≡ Header (spot_of birth at field) expected word }
+
+        // Whatever others do, it is refused only where the header says that the field is not there, or by a
+        // race, and what differs has another value than the expected one.
+        ensures cause { EndsOnlyFor fed_of end_of (ExchangeEndsFor (spot_of birth at field) expected word) result }
     {
         ExchangeMachine::Header {
             spot: Spot::new(birth, at, field),

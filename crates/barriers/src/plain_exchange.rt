@@ -3,7 +3,9 @@
 ghost use Rattle.std.specs.Prelude.{◌≡◌, ◌≤◌, ◌↔◌, IsSome};
 ghost use Rattle.call_steps.specs.declared.step.Step.TheVariants.{Ended as StepEnded};
 ghost use Rattle.barriers.specs.declared.plain_exchange.PlainExchange.TheVariants.{Load};
-ghost use Rattle.barriers.specs.PlainExchanges.{asks_of, end_of, exchanges_left};
+ghost use Rattle.barriers.specs.PlainExchanges.{asks_of, fed_of, end_of, exchanges_left};
+ghost use Rattle.barriers.specs.Ending.{EndsOnlyFor};
+ghost use Rattle.barriers.specs.PlainExchangeCauses.{EndsFor};
 ghost use Rattle.barriers.specs.PlainExchanges.{compared as compared_by, lost as lost_by, again as again_by};
 
 use crate::ends::{ExchangeEnd, TryRefusal};
@@ -63,7 +65,11 @@ impl TriesLeft {
 impl PlainExchange {
     /// The exchange of the word at `place` for `word` where it has the value of `expected`.
     pub fn new(place: u32, expected: FieldWord, word: u64) -> PlainExchange
-        ensures { result ≡ Load (record { place = place; expected = expected; word = word }) }
+        ensures machine { result ≡ Load (record { place = place; expected = expected; word = word }) }
+
+        // Whatever others do, a value that differs is another than the expected one, and the only refusal is
+        // a race.
+        ensures cause { EndsOnlyFor fed_of end_of (EndsFor (record { place = place; expected = expected; word = word })) result }
     {
         PlainExchange::Load(Swap {
             place,

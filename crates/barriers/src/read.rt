@@ -4,7 +4,9 @@ ghost use Rattle.std.specs.Prelude.{◌≡◌, ◌<◌, ◌≤◌, ◌^◌, ◌�
 ghost use Rattle.call_steps.specs.declared.step.Step.TheVariants.{Ended as StepEnded};
 ghost use Rattle.barriers.specs.declared.read.ReadMachine.TheVariants.{Header};
 ghost use Rattle.barriers.specs.Spots.{spot_of};
-ghost use Rattle.barriers.specs.Reads.{asks_of, end_of};
+ghost use Rattle.barriers.specs.Reads.{asks_of, fed_of, end_of};
+ghost use Rattle.barriers.specs.Ending.{EndsOnlyFor};
+ghost use Rattle.barriers.specs.Causes.{ReadEndsFor};
 
 use crate::ends::ReadEnd;
 use crate::heap_call::HeapCall;
@@ -29,7 +31,10 @@ impl ReadMachine {
     /// The read of a field of the object `birth`, which stands at `at`. The field number may be any.
     pub fn new(birth: u32, at: u32, field: u32) -> ReadMachine
         requires { at < 2 ^ 20 }
-        ensures { result ≡ Header (spot_of birth at field) }
+        ensures machine { result ≡ Header (spot_of birth at field) }
+
+        // Whatever others do, it ends without a value only where the header says that the field is not there.
+        ensures cause { EndsOnlyFor fed_of end_of (ReadEndsFor (spot_of birth at field)) result }
     {
         ReadMachine::Header(Spot::new(birth, at, field))
     }

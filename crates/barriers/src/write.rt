@@ -5,7 +5,9 @@ ghost use Rattle.call_steps.specs.declared.step.Step.TheVariants.{Ended as StepE
 ghost use Rattle.heap_words.specs.FieldWords.{field_of};
 ghost use Rattle.barriers.specs.declared.write.WriteMachine.TheVariants.{Header};
 ghost use Rattle.barriers.specs.Spots.{spot_of};
-ghost use Rattle.barriers.specs.Writes.{asks_of, end_of};
+ghost use Rattle.barriers.specs.Writes.{asks_of, fed_of, end_of};
+ghost use Rattle.barriers.specs.Ending.{EndsOnlyFor};
+ghost use Rattle.barriers.specs.Causes.{WriteEndsFor};
 
 use crate::ends::{TryRefusal, WriteEnd};
 use crate::heap_call::HeapCall;
@@ -33,7 +35,10 @@ impl WriteMachine {
         requires near { at < 2 ^ 20 }
         requires packed { word < 2 ^ 62 }
         requires value { IsSome (field_of word) }
-        ensures { result ≡ Header (spot_of birth at field) word }
+        ensures machine { result ≡ Header (spot_of birth at field) word }
+
+        // Whatever others do, it is refused only where the header says that the field is not there.
+        ensures cause { EndsOnlyFor fed_of end_of (WriteEndsFor (spot_of birth at field)) result }
     {
         WriteMachine::Header {
             spot: Spot::new(birth, at, field),
