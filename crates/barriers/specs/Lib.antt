@@ -4,11 +4,15 @@ pub mod Ends
 pub mod ExchangeMeanings
 pub mod Exchanges
 pub mod Meanings
+pub mod NewObjectCauses
+pub mod NewObjects
+pub mod PassMachines
 pub mod PlainExchangeCauses
 pub mod PlainExchangeMeanings
 pub mod PlainExchanges
 pub mod ReadMeanings
 pub mod Reads
 pub mod Spots
+pub mod Values
 pub mod WriteMeanings
 pub mod Writes

@@ -1,5 +1,6 @@
 //! What calls end with, and why a call is refused.
 
+use crate::room::Room;
 use heap_words::FieldWord;
 
 /// Why a read, and a write or an exchange that is tried until it is not raced, is refused.
@@ -61,4 +62,13 @@ pub enum NewRefusal {
     QuotaSpent { regions: u32 },
     /// The pass has made as many objects as it has birth numbers for.
     BirthsSpent,
+}
+
+/// What the making of an object ends with.
+#[derive(Clone, Copy, Debug, PartialEq, Eq)]
+pub enum NewEnd {
+    /// The object `birth` stands at `at`, and the pass makes its next one in `room`.
+    Made { birth: u32, at: u32, room: Room },
+    /// No object is made.
+    Refused(NewRefusal),
 }

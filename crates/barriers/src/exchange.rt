@@ -50,9 +50,11 @@ impl ExchangeMachine {
         requires value { IsSome (field_of word) }
         ensures machine { result ≡ Header (spot_of birth at field) expected word }
 
-        // Whatever others do, it is refused only where the header says that the field is not there, or by a
-        // race, and what differs has another value than the expected one.
-        ensures cause { EndsOnlyFor fed_of end_of (ExchangeEndsFor (spot_of birth at field) expected word) result }
+        // Whatever others do: it is refused for want of the field only where its first step loaded a header
+        // whose len, which the end tells, is not above the field; and any other end has the cause of the
+        // plain exchange of the field's word, which begins at the second step.
+        ensures cause { EndsOnlyFor asks_of fed_of end_of
+            (ExchangeEndsFor (spot_of birth at field) expected word) result }
     {
         ExchangeMachine::Header {
             spot: Spot::new(birth, at, field),

@@ -67,9 +67,13 @@ impl PlainExchange {
     pub fn new(place: u32, expected: FieldWord, word: u64) -> PlainExchange
         ensures machine { result ≡ Load (record { place = place; expected = expected; word = word }) }
 
-        // Whatever others do, a value that differs is another than the expected one, and the only refusal is
-        // a race.
-        ensures cause { EndsOnlyFor fed_of end_of (EndsFor (record { place = place; expected = expected; word = word })) result }
+        // Whatever others do: it is done where its last step was an exchange that wanted the word that it
+        // found, and that word had the expected value. A value that differs is that of the word that the last
+        // step found, and another than the expected one. It is refused only where the last step was the
+        // third exchange, which wanted the one word of the race and found the other, another word that had
+        // the expected value too.
+        ensures cause { EndsOnlyFor asks_of fed_of end_of
+            (EndsFor (record { place = place; expected = expected; word = word })) result }
     {
         PlainExchange::Load(Swap {
             place,

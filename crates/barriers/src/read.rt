@@ -33,8 +33,10 @@ impl ReadMachine {
         requires { at < 2 ^ 20 }
         ensures machine { result ≡ Header (spot_of birth at field) }
 
-        // Whatever others do, it ends without a value only where the header says that the field is not there.
-        ensures cause { EndsOnlyFor fed_of end_of (ReadEndsFor (spot_of birth at field)) result }
+        // Whatever others do: it gives what the load of the field found, and it ends without a value only
+        // where its first step loaded a header whose len, which the end tells, is not above the field.
+        ensures cause { EndsOnlyFor asks_of fed_of end_of
+            (ReadEndsFor (spot_of birth at field)) result }
     {
         ReadMachine::Header(Spot::new(birth, at, field))
     }

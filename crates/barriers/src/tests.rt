@@ -1,8 +1,12 @@
 //! Calls played by hand on plain words, with other threads' steps in between.
 
+ghost use Rattle.std.specs.Prelude.{◌≡◌};
+
 use super::*;
 use call_steps::{CallMachine, OutOfMemory, PlainWords, Step};
-use heap_words::{FieldWord, pack};
+use handshakes::PassView;
+use heap_history::Value;
+use heap_words::{FieldWord, Layout, pack};
 use std::alloc::Global;
 use std::process::Abort;
 use std::test::Fail;
@@ -141,6 +145,162 @@ fn exchanges_a_field(rt: HostRuntime) -> Result<(), Fail> {
         assert_eq!(rt; exchange.end(), Some(end));
         assert!(rt; 25 < words.len());
         assert_eq!(rt; words.word(25), word);
+    }
+    Ok(())
+}
+
+#[test]
+fn values_have_no_address(rt: HostRuntime) {
+    assert_eq!(rt; value_of(FieldWord::Num(5)), Value::Num(5));
+    assert_eq!(rt; value_of(OLD), Value::Object(BIRTH));
+    assert_eq!(rt; value_of(NEW), Value::Object(BIRTH));
+}
+
+/// The header of the first object of pass 2, which has two fields, and of its last.
+const FIRST_HEADER: u64 = 0x8000_0841;
+
+const LAST_HEADER: u64 = 0xa000_0041;
+
+/// The second pass, in no phase.
+const PASS: PassView = PassView {
+    pass: 2,
+    acked: 0,
+    mark: 0,
+};
+
+const NO_ROOM: Room = Room {
+    region: None,
+    used: 0,
+    last: None,
+};
+
+// Makes objects in this region, of which so many words are used.
+fn room(region: u32, used: u32) -> Room
+    ensures { result ≡ record { region = Some region; used = used; last = Some region } }
+{
+    Room {
+        region: Some(region),
+        used,
+        last: Some(region),
+    }
+}
+
+// Plays the machine to its end, and gives the number of its steps.
+fn play(rt: &impl Abort, words: &mut PlainWords, machine: &mut NewMachine) -> u32 {
+    for steps in 0..10 {
+        if matches!(step(rt, words, machine), Step::Ended) {
+            return steps;
+        }
+    }
+    10
+}
+
+// Of 2 passes with 3 regions each and 4 in the pool the second has the regions 7 to 9, with their words
+// at 28 to 30 and their first words at 479, 543 and 607. It makes an object of two fields. Each row has
+// where it makes objects, how many it has made, those three words, the number of steps, the end, the
+// three words after it, and where which header then stands. Taken by pass 2 is 17, and Filled is 2.
+#[test]
+fn makes_objects(rt: HostRuntime) -> Result<(), Fail> {
+    let layout = Layout::new(2, 3, 4, 5)?;
+    for (own, made, before, steps, birth, at, next, after, header) in [
+        (
+            NO_ROOM,
+            0,
+            [0, 0, 0],
+            3,
+            1_048_577,
+            479,
+            room(7, 3),
+            [17, 0, 0],
+            FIRST_HEADER,
+        ),
+        (
+            NO_ROOM,
+            0,
+            [2, 0, 0],
+            4,
+            1_048_577,
+            543,
+            room(8, 3),
+            [2, 17, 0],
+            FIRST_HEADER,
+        ),
+        (
+            room(7, 3),
+            0,
+            [17, 0, 0],
+            1,
+            1_048_577,
+            482,
+            room(7, 6),
+            [17, 0, 0],
+            FIRST_HEADER,
+        ),
+        (
+            room(7, 61),
+            262_143,
+            [17, 0, 0],
+            1,
+            1_310_720,
+            540,
+            room(7, 64),
+            [17, 0, 0],
+            LAST_HEADER,
+        ),
+        (
+            room(7, 62),
+            0,
+            [17, 0, 0],
+            4,
+            1_048_577,
+            543,
+            room(8, 3),
+            [2, 17, 0],
+            FIRST_HEADER,
+        ),
+    ] {
+        let mut words = PlainWords::zeros(rt.alloc(), 676)?;
+        for (place, word) in [(28, before[0]), (29, before[1]), (30, before[2])] {
+            put(&rt, &mut words, place, word);
+        }
+        let mut machine = NewMachine::new(&layout, PASS, own, made, 2);
+        assert_eq!(rt; play(&rt, &mut words, &mut machine), steps);
+        assert_eq!(rt;
+            machine.end(),
+            Some(NewEnd::Made {
+                birth,
+                at,
+                room: next
+            })
+        );
+        assert!(rt; words.len() == 676 && at < 676);
+        assert_eq!(rt; [words.word(28), words.word(29), words.word(30)], after);
+        assert_eq!(rt; words.word(at), header);
+    }
+    Ok(())
+}
+
+// With each region in use, and with each birth number spent.
+#[test]
+fn makes_no_object(rt: HostRuntime) -> Result<(), Fail> {
+    let layout = Layout::new(2, 3, 4, 5)?;
+    let quota_spent = NewRefusal::QuotaSpent { regions: 3 };
+    for (own, made, steps, refusal) in [
+        (room(7, 62), 0, 3, quota_spent),
+        (room(7, 0), 262_144, 0, NewRefusal::BirthsSpent),
+    ] {
+        let mut words = PlainWords::zeros(rt.alloc(), 676)?;
+        for (place, word) in [(28, 17), (29, 2), (30, 3)] {
+            put(&rt, &mut words, place, word);
+        }
+        let mut machine = NewMachine::new(&layout, PASS, own, made, 2);
+        assert_eq!(rt; play(&rt, &mut words, &mut machine), steps);
+        assert_eq!(rt; machine.end(), Some(NewEnd::Refused(refusal)));
+        assert_eq!(rt; words.len(), 676);
+        assert_eq!(rt;
+            [words.word(28), words.word(29), words.word(30)],
+            [17, 2, 3]
+        );
     }
     Ok(())
 }

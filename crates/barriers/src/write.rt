@@ -37,8 +37,11 @@ impl WriteMachine {
         requires value { IsSome (field_of word) }
         ensures machine { result ≡ Header (spot_of birth at field) word }
 
-        // Whatever others do, it is refused only where the header says that the field is not there.
-        ensures cause { EndsOnlyFor fed_of end_of (WriteEndsFor (spot_of birth at field)) result }
+        // Whatever others do: it has written where its last step stored the word in the field, and it is
+        // refused only where its first step loaded a header whose len, which the end tells, is not above
+        // the field.
+        ensures cause { EndsOnlyFor asks_of fed_of end_of
+            (WriteEndsFor (spot_of birth at field) word) result }
     {
         WriteMachine::Header {
             spot: Spot::new(birth, at, field),

@@ -1,72 +1,100 @@
 -- What the cause of a status says where the outside is honest.
-use Rattle.std.proofs.Common.{◌≡◌, ℕ, ◌<◌, ◌≤◌, ◌⊎◌, ◌↔◌, inl, inr, List, length, true, false, Option, Some, None, Result, Err, refl, sym, ap, ◌∙◌, arith, length-append}
+use Rattle.std.proofs.Common.{◌≡◌, ℕ, ◌<◌, ◌≤◌, ◌⊎◌, ◌↔◌, inl, inr, List, length, true, false, Option, Some, None, Result, Ok, Err, refl, sym, ap, ◌∙◌, subst, arith, length-append}
 use Rattle.std.specs.Prelude.{IsErrOf}
 use Rattle.heap_script.specs.Scripts.{Reading}
-use Rattle.heap_script.specs.Text.{text_of}
-use Rattle.heap_script.proofs.ScriptLaws.{text_of-injective}
+use Rattle.heap_script.specs.FirstFault.{IsScript, IsFault}
+use Rattle.heap_script.specs.Grammar.{Fault}
+use Rattle.heap_script.proofs.Unique.{one_script, script_or_fault, one_fault}
+use Rattle.gc_tool.specs.declared.forms.Replay.{Replay}
 use Rattle.gc_tool.specs.declared.status.Status.{Status}
-use Rattle.gc_tool.specs.declared.status.Status.TheVariants.{Done, ReadFault, TooLong, WriteFault, StepsSpent, OutOfMemory, NotBuilt}
-use Rattle.gc_tool.specs.Forms.{steps_of, IsBuilt}
-use Rattle.gc_tool.specs.Outside.{Rose, Gave}
-use Rattle.gc_tool.specs.Runs.{ends_within, enough_steps, status_after, IsOutput, IsCause, ReadsScript, ReadsOther, IsHonest}
-use Rattle.gc_tool.proofs.Ends.{enough}
+use Rattle.gc_tool.specs.declared.status.Status.TheVariants.{Done, Usage, ReadFault, TooLong, ScriptFault, WriteFault, StepsSpent, OutOfMemory, NotBuilt}
+use Rattle.gc_tool.specs.Forms.{request_of, IsBuilt}
+use Rattle.gc_tool.specs.Outside.{Rose, Gave, ReadsAll}
+use Rattle.gc_tool.specs.Runs.{ends_within, status_after, Answers, IsOutput, IsCause, ReadsScript, IsHonest}
+use Rattle.gc_tool.proofs.Headline.{enough}
 
--- what was read is the one script that the source tells
-same_script : (old new : Option (List ℕ)) (s t : Reading) → ReadsScript old new s → old ≡ Some (text_of t) → IsBuilt t → s ≡ t
-same_script None new s t read told built = absurd cc
-same_script (Some bytes) new s t read told built =
-    let same : bytes ≡ text_of t = cc in
-    text_of-injective s t read.built.fits built.fits (sym read.all.0 ∙ same)
+-- what was read is what the source told
+same_bytes : (old new : Option (List ℕ)) (read told : List ℕ) → ReadsAll old new read → old ≡ Some told → read ≡ told
+same_bytes None new read told all is = absurd cc
+same_bytes (Some bytes) new read told all is = let same : bytes ≡ told = cc in sym all.0 ∙ same
 
--- the words ask for one number of steps
-same_steps : (asked : Option ℕ) (m n : ℕ) → asked ≡ Some m → asked ≡ Some n → m ≡ n
-same_steps asked m n e f = cc
-
--- nothing else was read
-not_other : (old new : Option (List ℕ)) (s : Reading) → ReadsOther old new → old ≡ Some (text_of s) → IsBuilt s → ⊥
-not_other None new s read told built = absurd cc
-not_other (Some bytes) new s read told built =
-    let same : bytes ≡ text_of s = cc in
-    read.other (s, built, sym read.all.0 ∙ same)
+-- the words ask for one replay
+same_replay : (asked : Result Replay Status) (m n : Replay) → asked ≡ Ok m → asked ≡ Ok n → m ≡ n
+same_replay asked m n e f = cc
 
 -- the source did not give too much
-not_too_long : {T : Type 0} (r : Result T Status) (old new : Option (List ℕ)) (s : Reading) → r ≡ Err TooLong → Gave old new (λ given. IsErrOf r TooLong ↔ (1048576 < length given))
-    → old ≡ Some (text_of s) → length (text_of s) ≤ 1048576 → ⊥
-not_too_long r None new s is gave told short = absurd cc
-not_too_long r (Some bytes) None s is gave told short = absurd gave
-not_too_long r (Some bytes) (Some left) s is (given, parts, long) told short =
-    let same : bytes ≡ text_of s = cc in
+not_too_long : {T : Type 0} (r : Result T Status) (old new : Option (List ℕ)) (bytes : List ℕ) → r ≡ Err TooLong → Gave old new (λ given. IsErrOf r TooLong ↔ (1048576 < length given))
+    → old ≡ Some bytes → length bytes ≤ 1048576 → ⊥
+not_too_long r None new bytes is gave told short = absurd cc
+not_too_long r (Some held) None bytes is gave told short = absurd gave
+not_too_long r (Some held) (Some left) bytes is (given, parts, long) told short =
+    let same : held ≡ bytes = cc in
     omega (arith, long.0 is, ap length parts, length-append given left, ap length same, short)
 
-after_on : (script : Reading) (steps : ℕ) → ends_within script steps ≡ false → StepsSpent steps ≡ status_after script steps
-after_on script steps on = rw on refl
+after_on : (script : Reading) (replay : Replay) → ends_within script replay ≡ false → StepsSpent replay.steps ≡ status_after script replay
+after_on script replay on = rw on refl
 
-after_over : (script : Reading) (steps : ℕ) → ends_within script steps ≡ true → Done ≡ status_after script steps
-after_over script steps over = rw over refl
+after_over : (script : Reading) (replay : Replay) → ends_within script replay ≡ true → Done ≡ status_after script replay
+after_over script replay over = rw over refl
 
--- where the steps are enough
-pub after_enough : (script : Reading) (steps : ℕ) → IsBuilt script → enough_steps script ≤ steps → status_after script steps ≡ Done
-after_enough script steps built many = sym (after_over script steps (enough script steps built many))
+-- the answer to bytes that spell a script which is played
+answers_script : (bytes : List ℕ) (replay : Replay) (script : Reading) (status : Status) → IsScript bytes script → IsBuilt script → status ≡ status_after script replay → Answers bytes replay status
+answers_script bytes replay script status spells built is = record {
+  played = λ other says ready. subst (λ (s : Reading). status ≡ status_after s replay) (one_script bytes script other spells says) is;
+  enough = λ other says ready solo many.
+      let same = one_script bytes other script says spells in
+      is ∙ sym (after_over script replay (subst (λ (s : Reading). ends_within s replay ≡ true) same (enough other replay ready solo many)));
+  unbuilt = λ other says unbuilt. absurd (unbuilt (subst IsBuilt (one_script bytes script other spells says) built));
+  fault = λ fault is_fault. absurd (script_or_fault bytes script fault spells is_fault);
+}
 
-module _ (words : List (List ℕ)) (old new : Option (List ℕ)) (asked : ℕ) (is_asked : steps_of words ≡ Some asked) (script : Reading) (steps : ℕ) (honest : IsHonest words old script steps) where
+-- to bytes that spell another script
+answers_unbuilt : (bytes : List ℕ) (replay : Replay) (script : Reading) → IsScript bytes script → ¬ (IsBuilt script) → Answers bytes replay NotBuilt
+answers_unbuilt bytes replay script spells unbuilt = record {
+  played = λ other says ready. absurd (unbuilt (subst IsBuilt (one_script bytes other script says spells) ready));
+  enough = λ other says ready solo many. absurd (unbuilt (subst IsBuilt (one_script bytes other script says spells) ready));
+  unbuilt = λ other says none. refl;
+  fault = λ fault is_fault. absurd (script_or_fault bytes script fault spells is_fault);
+}
+
+-- to bytes with a fault
+answers_fault : (bytes : List ℕ) (replay : Replay) (fault : Fault) → IsFault bytes fault → Answers bytes replay (ScriptFault fault.0 fault.1)
+answers_fault bytes replay fault is = record {
+  played = λ script spells built. absurd (script_or_fault bytes script fault spells is);
+  enough = λ script spells built solo many. absurd (script_or_fault bytes script fault spells is);
+  unbuilt = λ script spells none. absurd (script_or_fault bytes script fault spells is);
+  fault = λ other is_other. ap (λ (f : Fault). ScriptFault f.0 f.1) (one_fault bytes fault other is is_other);
+}
+
+module _ (words : List (List ℕ)) (old new : Option (List ℕ)) (asked : Replay) (is_asked : request_of words ≡ Ok asked) (replay : Replay) (bytes : List ℕ) (honest : IsHonest words old replay bytes) where
+  same_asked : asked ≡ replay
+  same_asked = same_replay (request_of words) asked replay is_asked honest.replay_is
+
   -- where nothing is written
-  pub stopped : {T : Type 0} (status : Status) (r : Result T Status) (faults_old faults_new : ℕ) → r ≡ Err status → IsCause status old new faults_old faults_new asked
-      → Gave old new (λ given. IsErrOf r TooLong ↔ (1048576 < length given)) → ¬ (Rose faults_old faults_new) → (status ≡ status_after script steps) ⊎ (status ≡ OutOfMemory)
+  pub stopped : {T : Type 0} (status : Status) (r : Result T Status) (faults_old faults_new : ℕ) → r ≡ Err status → IsCause asked status old new faults_old faults_new
+      → Gave old new (λ given. IsErrOf r TooLong ↔ (1048576 < length given)) → ¬ (Rose faults_old faults_new) → Answers bytes replay status ⊎ (status ≡ OutOfMemory)
   stopped ReadFault r fo fn is cause gave quiet = absurd (quiet cause)
-  stopped TooLong r fo fn is cause gave quiet = absurd (not_too_long r old new script is gave honest.told honest.short)
-  stopped (StepsSpent n) r fo fn is (n_is, s, read, on) gave quiet =
-      let same = same_script old new s script read honest.told honest.built in
-      let count = same_steps (steps_of words) asked steps is_asked honest.steps_are in
-      let on_here : ends_within script steps ≡ false = sym (ap (λ x. ends_within x steps) same) ∙ sym (ap (ends_within s) count) ∙ on in
-      inl (ap StepsSpent (n_is ∙ count) ∙ after_on script steps on_here)
-  stopped NotBuilt r fo fn is cause gave quiet = absurd (not_other old new script cause honest.told honest.built)
+  stopped TooLong r fo fn is cause gave quiet = absurd (not_too_long r old new bytes is gave honest.told honest.short)
+  stopped (ScriptFault line kind) r fo fn is cause gave quiet =
+      let same = same_bytes old new cause.bytes bytes cause.all honest.told in
+      inl (answers_fault bytes replay (line, kind) (subst (λ (b : List ℕ). IsFault b (line, kind)) same cause.is))
+  stopped (StepsSpent n) r fo fn is (n_is, longer) gave quiet =
+      let same = same_bytes old new longer.read.bytes bytes longer.read.all honest.told in
+      let spells = subst (λ (b : List ℕ). IsScript b longer.script) same longer.read.spells in
+      let on : ends_within longer.script replay ≡ false = subst (λ (a : Replay). ends_within longer.script a ≡ false) same_asked longer.on in
+      inl (answers_script bytes replay longer.script (StepsSpent n) spells longer.read.built (ap StepsSpent (n_is ∙ ap (λ (a : Replay). a.steps) same_asked) ∙ after_on longer.script replay on))
+  stopped NotBuilt r fo fn is cause gave quiet =
+      let same = same_bytes old new cause.bytes bytes cause.all honest.told in
+      inl (answers_unbuilt bytes replay cause.script (subst (λ (b : List ℕ). IsScript b cause.script) same cause.spells) cause.unbuilt)
   stopped OutOfMemory r fo fn is cause gave quiet = inr refl
   stopped Done r fo fn is cause gave quiet = absurd cause
   stopped WriteFault r fo fn is cause gave quiet = absurd cause
+  stopped (Usage index) r fo fn is cause gave quiet = absurd cause
 
   -- where all is written
-  pub played : (s : Reading) (text : List ℕ) → ReadsScript old new s → IsOutput s asked text → Done ≡ status_after script steps
-  played s text read output =
-      let same = same_script old new s script read honest.told honest.built in
-      let count = same_steps (steps_of words) asked steps is_asked honest.steps_are in
-      after_over script steps (sym (ap (λ x. ends_within x steps) same) ∙ sym (ap (ends_within s) count) ∙ output.ends)
+  pub played : (script : Reading) (text : List ℕ) → ReadsScript old new script → IsOutput script asked text → Answers bytes replay Done
+  played script text read output =
+      let same = same_bytes old new read.bytes bytes read.all honest.told in
+      let spells = subst (λ (b : List ℕ). IsScript b script) same read.spells in
+      let over : ends_within script replay ≡ true = subst (λ (a : Replay). ends_within script a ≡ true) same_asked output.ends in
+      answers_script bytes replay script Done spells read.built (after_over script replay over)

@@ -1,123 +1,87 @@
--- The entries and answers of a world whose thread has ended are those of a legal run.
-use Rattle.std.proofs.Common.{◌≡◌, ℕ, ◌≤◌, List, [], ◌∷◌, length, take, drop, true, eqb, Option, Some, None, refl, sym, ap, ◌∙◌, subst, arith, eq-eqb}
-use Rattle.std.specs.Prelude.{slice_get}
-use Rattle.std.specs.List.{All, filter}
-use Rattle.std.proofs.Math.Seq.{take-length, drop-length}
-use Rattle.std.proofs.lemmas.List.Elements.{All-filter, All-map, All-head, All-tail}
-use Rattle.heap_words.specs.Layouts.{Sizes}
-use Rattle.heap_history.specs.declared.call.Call.{Call}
-use Rattle.heap_history.specs.declared.call.Entry.{Entry}
-use Rattle.heap_history.specs.Histories.{changes, is_change, made_by, pass_of}
-use Rattle.heap_words.specs.declared.field_word.FieldWord.{FieldWord}
-use Rattle.heap_script.specs.declared.script.Command.{Command}
-use Rattle.heap_script.specs.declared.script.Line.{Line}
+-- What is printed of a world that has played a script to its end is the output of the replay.
+use Rattle.std.proofs.Common.{◌≡◌, ℕ, ◌+◌, ◌-◌, ◌<◌, ◌≤◌, List, [], length, get_or, true, refl, sym, ap, ◌∙◌, subst, arith}
+use Rattle.std.specs.Prelude.{Result, Ok, IsOk}
+use Rattle.heap_words.specs.Layouts.{IsPass}
+use Rattle.heap_script.specs.Scripts.{Reading}
+use Rattle.gc_cycle.specs.declared.schedule.Schedule.{Schedule}
+use Rattle.gc_cycle.specs.declared.schedule.Schedule.TheVariants.{Solo}
+use Rattle.gc_cycle.specs.Commands.{commands_by}
 use Rattle.heap_script.specs.declared.answer.Answer.{Answer}
-use Rattle.heap_script.specs.Scripts.{Reading, LineFits}
-use Rattle.heap_script.specs.Allowed.{IsAllowed, IsRun, first_seat, commands_of}
-use Rattle.gc_tool.specs.declared.new_object.Room.{Room}
-use Rattle.gc_tool.specs.declared.doing.Doing.{Doing}
-use Rattle.gc_tool.specs.declared.doing.Doing.TheVariants as doing
-use Rattle.gc_tool.specs.declared.world.World.{World}
-use Rattle.gc_tool.specs.declared.thread.Settled.{Settled}
-use Rattle.gc_tool.specs.declared.thread.Settled.TheVariants as settled
-use Rattle.gc_tool.specs.Threads.{settled_of}
-use Rattle.gc_tool.specs.Worlds.{turns, is_done, is_over, stepped, taken_in, settled_at, opening_world}
-use Rattle.gc_tool.specs.Texts.{replay_text}
+use Rattle.gc_cycle.specs.Tellings.{entries_of}
+use Rattle.gc_cycle.specs.Worlds.{State, opening_state}
+use Rattle.gc_cycle.specs.Lawful.{Lawful, IsScript}
+use Rattle.gc_cycle.specs.Runs.{run_of, is_over}
+use Rattle.gc_cycle.proofs.AllowedAnswers.{run_keeps, run_keeps_static, over_allowed}
+use Rattle.gc_cycle.proofs.Facts.{get_below, get_or_of_get}
+use Rattle.gc_cycle.proofs.Going.{length_at}
+use Rattle.gc_cycle.proofs.Opening.{opening_lawful, script_of}
+use Rattle.gc_cycle.proofs.Showing.{shows_of}
+use Rattle.gc_cycle.proofs.SoloEnds.{solo_ends}
+use Rattle.gc_tool.specs.declared.forms.Replay.{Replay}
 use Rattle.gc_tool.specs.Forms.{IsBuilt}
-use Rattle.gc_tool.specs.Lawful.{Lawful, View, IsAt, commands_in}
-use Rattle.gc_tool.specs.Runs.{world_after, ends_within, text_of_world, IsOutput}
-use Rattle.gc_tool.proofs.Opening.{opening_lawful}
-use Rattle.gc_tool.proofs.Turning.{turn_keeps}
-use Rattle.gc_tool.proofs.Ends.{turns_keep, entries_own}
+use Rattle.gc_tool.specs.Runs.{world_after, ends_within, enough_steps, text_of_world, IsOutput}
 
--- ---- the only thread
+-- a script that is built is one for which a world is built
+pub is_script : (script : Reading) → IsBuilt script → IsScript script.layout (commands_by script.layout.passes script.lines)
+is_script script built = script_of script built.fits (λ t is. built.room t is.0 is.1)
 
--- all lines are those of thread 1
-commands-one : (lines : List Line) → All (LineFits 1) lines → commands_of 1 lines ≡ commands_in lines
-commands-one [] h = refl
-commands-one (l ∷ ls) h =
-    let fits = All-head (LineFits 1) l ls h in
-    let one : eqb l.thread 1 ≡ true = eq-eqb l.thread 1 (omega (arith, fits.least, fits.most)) in
-    rw one (ap (λ cs. l.command ∷ cs) (commands-one ls (All-tail (LineFits 1) l ls h)))
+-- its world at the start is lawful
+pub opens : (script : Reading) → IsBuilt script → Lawful (opening_state script)
+opens script built = opening_lawful script (is_script script built)
 
--- a change of a pass that is there
-abbrev IsOwn : Call → Type 0
-IsOwn c = (1 ≤ pass_of c) × (pass_of c ≤ 1)
+-- and whatever the schedule
+pub lawful_after : (script : Reading) (replay : Replay) → IsBuilt script → Lawful (world_after script replay)
+lawful_after script replay built = run_keeps replay.schedule replay.steps (opening_state script) (opens script built)
 
--- all changes are those of thread 1
-changes-one : (entries : List Entry) → All (λ e. pass_of e.call ≡ 1) entries → All IsOwn (changes entries)
-changes-one entries h =
-    let own : All (λ e. IsOwn e.call) entries = λ k d within. let e = h k d within in (omega (arith, e), omega (arith, e)) in
-    All-map IsOwn (λ (e : Entry). e.call) (filter (λ e. is_change e.reply) entries) (All-filter (λ e. is_change e.reply) (λ e. IsOwn e.call) entries own)
-
--- a thread that has ended has answered each line
-answered-all : (layout : Sizes) (view : View) (registers : List FieldWord) (room : Room) (made : ℕ) (lines : List Line) (answers : List Answer) (d : Doing) → is_done d ≡ true → IsAt layout view registers room made lines answers d → length answers ≡ length lines
-answered-all layout view registers room made lines answers (doing.Poll m) over at = absurd cc
-answered-all layout view registers room made lines answers (doing.New m) over at = absurd cc
-answered-all layout view registers room made lines answers (doing.Read m) over at = absurd cc
-answered-all layout view registers room made lines answers (doing.Write m) over at = absurd cc
-answered-all layout view registers room made lines answers doing.Done over at = at
-
--- the answers of a world whose thread has ended
-pub allowed-over : (w : World) → Lawful w → is_over w ≡ true → All (λ e. pass_of e.call ≡ 1) w.told.entries → IsAllowed w.script (changes w.told.entries) (w.told.answers ∷ [])
-allowed-over w lawful over own =
-    let tells = lawful.tells in
-    let passes = lawful.built.passes in
-    let lines = w.script.lines in
-    let all : length w.told.answers ≡ length lines = answered-all w.script.layout lawful.view w.thread.registers w.thread.room w.thread.made lines w.told.answers w.thread.doing over lawful.at in
-    let fits : All (LineFits 1) lines = subst (λ (n : ℕ). All (LineFits n) lines) passes lawful.built.fits.lines in
-    let same : commands_in (take (length w.told.answers) lines) ≡ commands_of 1 lines =
-    ap (λ n. commands_in (take n lines)) all ∙ ap commands_in (take-length lines) ∙ sym (commands-one lines fits) in
-    let P : List Command → Type 0 = λ cs. IsRun w.script.layout.quota 1 (changes w.told.entries) first_seat cs w.told.answers tells.fronts tells.seat in
-    let none : drop tells.seat.seen (changes w.told.entries) ≡ [] = ap (λ n. drop n (changes w.told.entries)) tells.seen_is ∙ drop-length (changes w.told.entries) in
-    record {
-      passes = subst (λ (n : ℕ). All (λ c. (1 ≤ pass_of c) × (pass_of c ≤ n)) (changes w.told.entries)) (sym passes) (changes-one w.told.entries own);
-      count = sym passes;
-      threads = (record { fronts = tells.fronts; last = tells.seat; run = subst P same tells.run; rest = ap (made_by 1) none }, tt);
-    }
-
--- ---- the output
-
-taken-script : (w : World) (s : Settled) → (taken_in w s).script ≡ w.script
-taken-script w (settled.Going thread) = refl
-taken-script w (settled.Answered thread answer entry) = refl
-
-settled-script : (w : World) (o : Option Line) → (settled_at w o).script ≡ w.script
-settled-script w None = refl
-settled-script w (Some line) = taken-script w (settled_of w.script.layout line.command w.thread)
-
--- all turns play one script
-script-after : (script : Reading) (steps : ℕ) → (world_after script steps).script ≡ script
-script-after script steps =
-    turns_keep (λ w. w.script ≡ script) (λ w same on. settled-script (stepped w) (slice_get w.script.lines (length w.told.answers)) ∙ same) steps (opening_world script) refl
-
--- turns keep the world lawful
-pub lawful-after : (script : Reading) (steps : ℕ) → IsBuilt script → Lawful (world_after script steps)
-lawful-after script steps built = turns_keep Lawful turn_keeps steps (opening_world script) (opening_lawful script built)
-
--- the text of a world whose thread has ended is the output of the replay
-pub is_output : (script : Reading) (steps : ℕ) → IsBuilt script → ends_within script steps ≡ true → IsOutput script steps (text_of_world (world_after script steps))
-is_output script steps built ends =
-    let w = world_after script steps in
-    let lawful = lawful-after script steps built in
+-- the text of a world whose threads have ended is the output of the replay
+pub is_output : (script : Reading) (replay : Replay) → IsBuilt script → ends_within script replay ≡ true → IsOutput script replay (text_of_world (world_after script replay))
+is_output script replay built ends =
+    let w = world_after script replay in
+    let lawful = lawful_after script replay built in
+    let stays = run_keeps_static replay.schedule replay.steps (opening_state script) in
+    let shows = shows_of w lawful (entries_of w.told.log) refl in
     record {
       ends = ends;
       told = refl;
       legal = record {
-        entries = w.told.entries;
+        entries = entries_of w.told.log;
+        agains = w.told.agains;
         answers = w.told.answers;
         text_is = refl;
-        accepted = lawful.tells.accepted;
-        allowed = subst (λ (s : Reading). IsAllowed s (changes w.told.entries) (w.told.answers ∷ [])) (script-after script steps) (allowed-over w lawful ends (entries_own script steps));
+        accepted = shows.accepted;
+        allowed = over_allowed script w lawful ends stays.layout stays.commands;
       };
+      shows = shows;
     }
 
--- what is printed of a world that has played the script to its end
-pub printed_output : (script : Reading) (steps : ℕ) (built : IsBuilt script) (before after : World) (entries : List Entry) (answers : List Answer) (text : List ℕ)
-    → before ≡ opening_world script → after ≡ turns steps before → is_over after ≡ true → entries ≡ after.told.entries → answers ≡ after.told.answers → text ≡ replay_text entries (answers ∷ [])
-    → IsOutput script steps text
-printed_output script steps built before after entries answers text first taken over entries_are answers_are printed =
-    let same : after ≡ world_after script steps = taken ∙ ap (turns steps) first in
-    let told : text ≡ text_of_world (world_after script steps) =
-    printed ∙ ap (λ xs. replay_text xs (answers ∷ [])) entries_are ∙ ap (λ xs. replay_text after.told.entries (xs ∷ [])) answers_are ∙ ap text_of_world same in
-    subst (IsOutput script steps) (sym told) (is_output script steps built (sym (ap is_over same) ∙ over))
+-- where one thread plays after another, so many steps are enough
+pub enough : (script : Reading) (replay : Replay) → IsBuilt script → replay.schedule ≡ Solo → enough_steps script ≤ replay.steps → ends_within script replay ≡ true
+enough script replay built solo many =
+    let P : Schedule → Type 0 = λ schedule. is_over (run_of schedule replay.steps (opening_state script)) ≡ true in
+    subst P (sym solo) (solo_ends script (opens script built) replay.steps many)
+
+-- what is printed of the world that was played to its end is that output
+pub printed_output : (script : Reading) (replay : Replay) (built : IsBuilt script) (before after : State) → before ≡ opening_state script → after ≡ run_of replay.schedule replay.steps before → is_over after ≡ true
+    → (text : List ℕ) → text ≡ text_of_world after → IsOutput script replay text
+printed_output script replay built before after first taken over text printed =
+    let same : after ≡ world_after script replay = taken ∙ ap (run_of replay.schedule replay.steps) first in
+    subst (IsOutput script replay) (sym (printed ∙ ap text_of_world same)) (is_output script replay built (sym (ap is_over same) ∙ over))
+
+-- no thread has more answers than a script has commands
+pub few_answers : (w : State) → Lawful w → (lists : List (List Answer)) → lists ≡ w.told.answers → (k : ℕ) (d : List Answer) → k < length lists → length (get_or lists k d) < 2147483648
+few_answers w lw lists same k d within =
+    let P : List (List Answer) → Type 0 = λ xs. k < length xs → length (get_or xs k d) < 2147483648 in
+    subst P (sym same) (λ inside.
+    let is : IsPass w.layout (k + 1) = (omega arith, omega (arith, inside, lw.room.threads, lw.script.threads)) in
+    let t = lw.threads (k + 1) is in
+    let back : k + 1 - 1 ≡ k = omega arith in
+    let got = get_below w.told.answers k inside in
+    let at : get_or w.told.answers k d ≡ get_or w.told.answers (k + 1 - 1) [] =
+    get_or_of_get w.told.answers k got.0 d got.1 ∙ sym (get_or_of_get w.told.answers k got.0 [] got.1) ∙ ap (λ i. get_or w.told.answers i []) (sym back) in
+    let fits = t.answers_fit in
+    let few = lw.script.few in
+    omega (arith, ap length at, fits, length_at w.commands (k + 1 - 1), few)) within
+
+-- a result that is Ok
+pub ok_is : {T E : Type 0} (r : Result T E) (x : T) → r ≡ Ok x → IsOk r
+ok_is r x e = subst IsOk (sym e) refl

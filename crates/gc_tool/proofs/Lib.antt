@@ -1,9 +1,4 @@
 pub mod Causes
-pub mod Ends
-pub mod Facts
+mod FormLaws
 pub mod Headline
 pub mod Known
-pub mod Opening
-pub mod Tellings
-pub mod Turning
-pub mod Views

@@ -1,38 +1,143 @@
 -- Which words and which inputs this program takes.
-use Rattle.std.specs.Prelude.{◌≡◌, ℕ, ◌+◌, ◌≤◌, List, [], ◌∷◌, nat_le, ◌&&◌, if◌then◌else◌, Option, Some, None, codes, sum_by}
-use Rattle.std.specs.List.{All}
+use Rattle.std.specs.Prelude.{◌≡◌, ℕ, ◌+◌, ◌-◌, ◌^◌, ◌≤◌, List, [], ◌∷◌, Bool, true, false, nat_le, ◌&&◌, ◌||◌, if◌then◌else◌, Option, Some, None, Result, Err, is_some, option_map, codes, sum_by}
+use Rattle.std.specs.Option.{ok_or}
 use Rattle.std.specs.Str.{bytes_eq}
+use Rattle.gc_cycle.specs.declared.schedule.Schedule.{Schedule}
+use Rattle.gc_cycle.specs.declared.schedule.Schedule.TheVariants.{Solo, Even, Drawn}
 use Rattle.heap_script.specs.declared.script.Command.{Command}
 use Rattle.heap_script.specs.declared.script.Command.TheVariants.{New}
+use Rattle.heap_script.specs.declared.script.Line.{Line}
+use Rattle.heap_script.specs.Allowed.{commands_of}
+use Rattle.heap_script.specs.FirstFault.{IsScript, IsFault}
 use Rattle.heap_script.specs.Scripts.{Reading, Fits}
-use Rattle.heap_script.specs.Text.{text_of}
-use Rattle.heap_script.specs.Words.{number_of}
-use Rattle.gc_tool.specs.Sound.{IsPlainCommand}
+use Rattle.heap_script.specs.Words.{Word, number_of}
+use Rattle.gc_tool.specs.declared.forms.Form.{Form}
+use Rattle.gc_tool.specs.declared.forms.Form.TheVariants as forms
+use Rattle.gc_tool.specs.declared.forms.Place.{Place}
+use Rattle.gc_tool.specs.declared.forms.Place.TheVariants as places
+use Rattle.gc_tool.specs.declared.forms.Replay.{Replay}
+use Rattle.gc_tool.specs.declared.status.Status.{Status}
+use Rattle.gc_tool.specs.declared.status.Status.TheVariants.{Usage, ScriptFault, OutOfMemory, NotBuilt}
 
--- 1 to 1,000,000,000
-abbrev pub within_steps : Option ℕ → Option ℕ
-within_steps None = None
-within_steps (Some n) = if nat_le 1 n && nat_le n 1000000000 then Some n else None
+-- ---- what a word says
 
--- The steps that `replay stopless solo STEPS` asks for; None for other words.
-abbrev pub steps_of : List (List ℕ) → Option ℕ
-steps_of (command ∷ copier ∷ schedule ∷ steps ∷ []) =
-    if bytes_eq command (codes "replay") && bytes_eq copier (codes "stopless") && bytes_eq schedule (codes "solo") then within_steps (number_of steps) else None
-steps_of _ = None
+-- a number within both limits
+abbrev pub within : ℕ → ℕ → Option ℕ → Option ℕ
+within low high None = None
+within low high (Some n) = if nat_le low n && nat_le n high then Some n else None
+
+-- NUMBER: 1 to 20 digits, and below 2^64
+abbrev pub seed_of : Word → Option ℕ
+seed_of word = within 0 (2 ^ 64 - 1) (number_of word)
+
+-- STEPS: a number from 1 to 1,000,000,000
+abbrev pub steps_of : Word → Option ℕ
+steps_of word = within 1 1000000000 (number_of word)
+
+-- SCHEDULE: `solo`, `even` or a NUMBER
+abbrev pub schedule_of : Word → Option Schedule
+schedule_of word =
+    if bytes_eq word (codes "solo") then Some Solo
+    else if bytes_eq word (codes "even") then Some Even
+    else option_map Drawn (seed_of word)
+
+-- COPIER: `stopless`, `chicken` or `clover`
+abbrev pub is_copier : Word → Bool
+is_copier word = bytes_eq word (codes "stopless") || bytes_eq word (codes "chicken") || bytes_eq word (codes "clover")
+
+-- ---- forms of words
+
+-- the form that begins with this word
+abbrev pub form_of : Word → Option Form
+form_of word =
+    if bytes_eq word (codes "run") then Some forms.Run
+    else if bytes_eq word (codes "load") then Some forms.Load
+    else if bytes_eq word (codes "replay") then Some forms.Replay
+    else if bytes_eq word (codes "check") then Some forms.Check
+    else if bytes_eq word (codes "make") then Some forms.Make
+    else None
+
+-- the places of a form behind its first word
+abbrev pub places_of : Form → List Place
+places_of forms.Run = places.Copier ∷ places.MaybeNumber ∷ []
+places_of forms.Load = places.Copier ∷ places.Number ∷ []
+places_of forms.Replay = places.Copier ∷ places.Schedule ∷ places.Steps ∷ []
+places_of forms.Check = []
+places_of forms.Make = places.Number ∷ []
+
+-- what a place asks of a word
+abbrev pub fits : Place → Word → Bool
+fits places.Copier word = is_copier word
+fits places.Schedule word = is_some (schedule_of word)
+fits places.Steps word = is_some (steps_of word)
+fits places.Number word = is_some (seed_of word)
+fits places.MaybeNumber word = is_some (seed_of word)
+
+-- whether the word of a place may be missing
+abbrev pub is_optional : Place → Bool
+is_optional places.MaybeNumber = true
+is_optional _ = false
+
+-- The index of the first word that does not fit its place, or of one that is missing; a further word has no place.
+abbrev pub misfit_from : ℕ → List Place → List Word → Option ℕ
+misfit_from index [] [] = None
+misfit_from index [] (word ∷ later) = Some index
+misfit_from index (place ∷ places) [] = if is_optional place then None else Some index
+misfit_from index (place ∷ places) (word ∷ later) = if fits place word then misfit_from (index + 1) places later else Some index
+
+abbrev pub misfit_of : Option Form → List Word → Option ℕ
+misfit_of None later = Some 0
+misfit_of (Some form) later = misfit_from 1 (places_of form) later
+
+-- The index of the first word that is wrong, counted from 0, or the number of words where one is missing; None: they
+-- are a form.
+abbrev pub usage_of : List Word → Option ℕ
+usage_of [] = Some 0
+usage_of (first ∷ later) = misfit_of (form_of first) later
+
+abbrev pub replay_with : Option Schedule → Option ℕ → Option Replay
+replay_with (Some schedule) (Some steps) = Some (record { schedule = schedule; steps = steps })
+replay_with _ _ = None
+
+-- what `replay stopless SCHEDULE STEPS` asks for; None for other words
+abbrev pub stopless_replay : List Word → Option Replay
+stopless_replay (command ∷ copier ∷ schedule ∷ steps ∷ []) =
+    if bytes_eq command (codes "replay") && bytes_eq copier (codes "stopless") then replay_with (schedule_of schedule) (steps_of steps) else None
+stopless_replay _ = None
+
+-- the replay that a form asks for; no other form is built
+abbrev pub request_behind : Option ℕ → List Word → Result Replay Status
+request_behind (Some index) words = Err (Usage index)
+request_behind None words = ok_or (stopless_replay words) NotBuilt
+
+-- What the words ask for: words that are no form are `Usage`, and forms that are not built yet `NotBuilt`.
+abbrev pub request_of : List Word → Result Replay Status
+request_of words = request_behind (usage_of words) words
+
+-- ---- scripts
 
 -- the words of a region that a command's object takes
 abbrev pub room_of : Command → ℕ
 room_of (New dst len) = len + 1
 room_of _ = 0
 
--- A script of one thread, without cycles, of `new`, `get` and `put` alone, whose objects fit one region of 64 words.
+-- the words that the objects of a thread take
+abbrev pub room_of_thread : ℕ → List Line → ℕ
+room_of_thread thread lines = sum_by room_of (commands_of thread lines)
+
+-- the objects of each thread fit one region of 64 words
+abbrev pub HaveRoom : ℕ → List Line → Type 0
+HaveRoom threads lines = (thread : ℕ) → 1 ≤ thread → thread ≤ threads → room_of_thread thread lines ≤ 64
+
+-- A script without cycles, in which the objects of each thread fit one region.
 pub record IsBuilt (script : Reading) : Type 0 where
   pub fits : Fits script
-  pub passes : script.layout.passes ≡ 1
   pub cycles : script.cycles ≡ 0
-  pub lines : All (λ l. IsPlainCommand l.command) script.lines
-  pub room : sum_by (λ l. room_of l.command) script.lines ≤ 64
+  pub room : HaveRoom script.layout.passes script.lines
 
--- the bytes are the text of such a script
-abbrev pub IsInput : List ℕ → Type 0
-IsInput bytes = (script : Reading) × IsBuilt script × (bytes ≡ text_of script)
+-- Why bytes are not played: a line has a fault, or they spell a script that is not built; want of memory has no cause.
+abbrev pub IsRefused : List ℕ → Status → Type 0
+IsRefused bytes (ScriptFault line kind) = IsFault bytes (line, kind)
+IsRefused bytes NotBuilt = (script : Reading) × IsScript bytes script × (¬ (IsBuilt script))
+IsRefused bytes OutOfMemory = Unit {0}
+IsRefused bytes _ = ⊥

@@ -1,5 +1,5 @@
--- The text of a replay: entries, answers and the end, a line each.
-use Rattle.std.specs.Prelude.{ℕ, ◌+◌, ◌/◌, ◌%◌, List, [], ◌∷◌, ◌++◌, codes, decimal}
+-- The text of a replay: entries, commands whose tries were refused, answers and the end, a line each.
+use Rattle.std.specs.Prelude.{ℕ, ◌+◌, ◌/◌, ◌%◌, ◌==◌, ◌&&◌, if◌then◌else◌, List, [], ◌∷◌, ◌++◌, codes, decimal}
 use Rattle.std.specs.List.{flat_map}
 use Rattle.heap_history.specs.declared.call.Value.{Value}
 use Rattle.heap_history.specs.declared.call.Value.TheVariants as values
@@ -10,6 +10,7 @@ use Rattle.heap_history.specs.declared.call.Reply.TheVariants.{Made, Got, Wrote,
 use Rattle.heap_history.specs.declared.call.Entry.{Entry}
 use Rattle.heap_script.specs.declared.answer.Answer.{Answer}
 use Rattle.heap_script.specs.declared.answer.Answer.TheVariants as answers
+use Rattle.gc_cycle.specs.declared.told.Again.{Again}
 use Rattle.heap_script.specs.Words.{Word}
 use Rattle.heap_script.specs.Text.{line_text}
 
@@ -67,6 +68,13 @@ abbrev pub all_answers_text : ℕ → List (List Answer) → List ℕ
 all_answers_text thread [] = []
 all_answers_text thread (first ∷ later) = answers_text thread 1 first ++ all_answers_text (thread + 1) later
 
+-- how often the tries of a command were refused; a command whose tries were not has no line
+abbrev pub again_text : Again → List ℕ
+again_text a =
+    if a.raced == 0 && a.busy == 0 then [] else
+    line_text (codes "again" ∷ decimal a.thread ∷ decimal a.number ∷ codes "raced" ∷ decimal a.raced ∷ codes "busy" ∷ decimal a.busy ∷ [])
+
 -- The whole text.
-abbrev pub replay_text : List Entry → List (List Answer) → List ℕ
-replay_text entries answers = flat_map entry_text entries ++ all_answers_text 1 answers ++ line_text (codes "end" ∷ [])
+abbrev pub replay_text : List Entry → List Again → List (List Answer) → List ℕ
+replay_text entries agains answers =
+    flat_map entry_text entries ++ flat_map again_text agains ++ all_answers_text 1 answers ++ line_text (codes "end" ∷ [])

@@ -1,48 +1,280 @@
 //! Which words and which inputs this program takes.
 
-ghost use Rattle.std.specs.Prelude.{◌≡◌, ◌+◌, ◌≤◌, ◌<◌, ◌^◌, ◌↔◌, length, map, Some, IsTrue, IfOk, IfErr, IsErrOf, ◌⊎◌, string_bytes, sum_by};
+ghost use Rattle.std.specs.Prelude.{◌≡◌, ℕ, ◌+◌, ◌≤◌, ◌<◌, ◌^◌, ◌↔◌, length, map, Some, Ok, Err, IsTrue, IfOk, IfErr, IsErrOf, ◌⊎◌, string_bytes, sum_by};
 ghost use Rattle.std.specs.List.{All};
-ghost use Rattle.heap_script.specs.Scripts.{Fits, CommandFits};
-ghost use Rattle.heap_script.specs.Text.{text_of};
-ghost use Rattle.gc_tool.specs.Sound.{IsPlainCommand};
-ghost use Rattle.gc_tool.specs.Forms.{steps_of as steps_of_words, room_of as room_of_command, IsBuilt, IsInput};
+ghost use Rattle.heap_script.specs.FirstFault.{IsScript, IsFault};
+ghost use Rattle.heap_script.specs.Grammar.{Fault};
+ghost use Rattle.heap_script.specs.Scripts.{Reading, Fits, CommandFits};
+ghost use Rattle.heap_script.specs.Words.{number_of};
+ghost use Rattle.gc_tool.specs.Forms as grammar;
+ghost use Rattle.gc_tool.specs.Forms.{room_of as room_of_command};
 
 use crate::status::Status;
-use heap_script::{Command, Line, ReadScriptFault, Script, number, print_script, read_script};
+use gc_cycle::Schedule;
+use heap_script::{Command, Line, ReadScriptFault, Script, number, read_script};
 use std::alloc::Global;
 
 /// The most steps of a replay.
-const MOST_STEPS: u128 = 1_000_000_000;
+const MOST_STEPS: u64 = 1_000_000_000;
 
 /// The words of a region.
 const REGION_WORDS: u32 = 64;
 
-/// The steps that `replay stopless solo STEPS` asks for; None for other words.
-pub fn steps_of(words: &[String]) -> Option<u64>
-    ensures { result ≡ steps_of_words (map string_bytes words.now) }
+/// A form of words, by its first word.
+#[derive(Clone, Copy)]
+enum Form {
+    /// `run COPIER` and `run COPIER NUMBER`
+    Run,
+    /// `load COPIER NUMBER`
+    Load,
+    /// `replay COPIER SCHEDULE STEPS`
+    Replay,
+    /// `check`
+    Check,
+    /// `make NUMBER`
+    Make,
+}
+
+/// What a word behind the first has to be.
+#[derive(Clone, Copy)]
+enum Place {
+    /// `stopless`, `chicken` or `clover`
+    Copier,
+    /// `solo`, `even` or a NUMBER
+    Schedule,
+    /// A number from 1 to 1,000,000,000.
+    Steps,
+    /// A number below 2^64.
+    Number,
+    /// A NUMBER, or no word.
+    MaybeNumber,
+}
+
+/// A replay that the words ask for.
+#[derive(Clone, Copy, Debug, PartialEq, Eq)]
+pub struct Replay {
+    pub schedule: Schedule,
+    pub steps: u64,
+}
+
+/// The number that the word is, if it is within both limits.
+fn number_within(word: &str, low: u64, high: u64) -> Option<u64>
+    ensures { result ≡ grammar.within low high (number_of word.now) }
+{
+    match number(word.as_bytes()) {
+        Some(n) if u128::from(low) <= n && n <= u128::from(high) => Some(n as u64),
+        _ => None,
+    }
+}
+
+fn seed_of(word: &str) -> Option<u64>
+    ensures { result ≡ grammar.seed_of word.now }
+{
+    number_within(word, 0, u64::MAX)
+}
+
+fn steps_of(word: &str) -> Option<u64>
+    ensures { result ≡ grammar.steps_of word.now }
+{
+    number_within(word, 1, MOST_STEPS)
+}
+
+fn schedule_of(word: &str) -> Option<Schedule>
+    ensures { result ≡ grammar.schedule_of word.now }
+{
+    match word {
+        "solo" => Some(Schedule::Solo),
+        "even" => Some(Schedule::Even),
+        _ => seed_of(word).map(Schedule::Drawn),
+    }
+}
+
+fn is_copier(word: &str) -> bool
+    ensures { result ≡ grammar.is_copier word.now }
+{
+    matches!(word, "stopless" | "chicken" | "clover")
+}
+
+fn form_of(word: &str) -> Option<Form>
+    ensures { result ≡ grammar.form_of word.now }
+{
+    match word {
+        "run" => Some(Form::Run),
+        "load" => Some(Form::Load),
+        "replay" => Some(Form::Replay),
+        "check" => Some(Form::Check),
+        "make" => Some(Form::Make),
+        _ => None,
+    }
+}
+
+/// The places of a form behind its first word.
+fn places_of(form: Form) -> &'static [Place]
+    ensures { result.now ≡ grammar.places_of form }
+{
+    match form {
+        Form::Run => &[Place::Copier, Place::MaybeNumber],
+        Form::Load => &[Place::Copier, Place::Number],
+        Form::Replay => &[Place::Copier, Place::Schedule, Place::Steps],
+        Form::Check => &[],
+        Form::Make => &[Place::Number],
+    }
+}
+
+fn fits(place: Place, word: &str) -> bool
+    ensures { result ≡ grammar.fits place word.now }
+{
+    match place {
+        Place::Copier => is_copier(word),
+        Place::Schedule => schedule_of(word).is_some(),
+        Place::Steps => steps_of(word).is_some(),
+        Place::Number | Place::MaybeNumber => seed_of(word).is_some(),
+    }
+}
+
+/// Whether the word of the place may be missing.
+fn is_optional(place: Place) -> bool
+    ensures { result ≡ grammar.is_optional place }
+{
+    matches!(place, Place::MaybeNumber)
+}
+
+/// The index of the first word behind the first one that is wrong or missing.
+fn misfit(places: &[Place], later: &[String]) -> Option<u32>
+    requires { length places.now ≤ 3 }
+    ensures { result ≡ grammar.misfit_from 1 places.now (map string_bytes later.now) }
+{
+    let mut index = 1u32;
+    let mut rest = later;
+    for place in places {
+        let Some((word, after)) = rest.split_first() else {
+            return if is_optional(*place) {
+                None
+            } else {
+                Some(index)
+            };
+        };
+        if !fits(*place, word) {
+            return Some(index);
+        }
+        rest = after;
+        index += 1;
+    }
+    if rest.is_empty() { None } else { Some(index) }
+}
+
+/// The index of the first word that is wrong or missing; None where the words are a form.
+fn usage_of(words: &[String]) -> Option<u32>
+    ensures { result ≡ grammar.usage_of (map string_bytes words.now) }
+{
+    match words.split_first() {
+        None => Some(0),
+        Some((first, later)) => match form_of(first) {
+            None => Some(0),
+            Some(form) => misfit(places_of(form), later),
+        },
+    }
+}
+
+/// What `replay stopless SCHEDULE STEPS` asks for; None for other words.
+fn stopless_replay(words: &[String]) -> Option<Replay>
+    ensures { result ≡ grammar.stopless_replay (map string_bytes words.now) }
 {
     match words {
         [command, copier, schedule, steps]
-            if command.as_str() == "replay"
-                && copier.as_str() == "stopless"
-                && schedule.as_str() == "solo" => {
-            match number(steps.as_bytes()) {
-                Some(n) if 1 <= n && n <= MOST_STEPS => Some(n as u64),
-                _ => None,
-            }
+            if command.as_str() == "replay" && copier.as_str() == "stopless" => {
+            Some(Replay {
+                schedule: schedule_of(schedule)?,
+                steps: steps_of(steps)?,
+            })
         }
         _ => None,
     }
 }
 
-fn is_plain(command: Command) -> bool
-    requires { CommandFits command }
-    ensures { IsTrue result ↔ IsPlainCommand command }
+/// The replay that the words ask for.
+///
+/// # Errors
+///
+/// `Usage` for words that are no form, and `NotBuilt` for every other form.
+pub fn replay_of(words: &[String]) -> Result<Replay, Status>
+    ensures { result ≡ grammar.request_of (map string_bytes words.now) }
 {
-    matches!(
-        command,
-        Command::New { .. } | Command::Get { .. } | Command::Put { .. }
-    )
+    match usage_of(words) {
+        Some(index) => Err(Status::Usage { index }),
+        None => stopless_replay(words).ok_or(Status::NotBuilt),
+    }
+}
+
+/// The words that the objects of a thread take.
+fn room_of_thread(lines: &[Line], thread: u32) -> u32
+    requires count { length lines.now ≤ 65536 }
+    requires fits { All (λ l. CommandFits l.command) lines.now }
+    ensures { result ≡ grammar.room_of_thread thread lines.now }
+{
+    let mut room = 0;
+    for line in lines {
+        if line.thread == thread {
+            room += room_of(line.command);
+        }
+    }
+    room
+}
+
+/// Whether the objects of each thread fit one region.
+fn have_room(threads: u32, lines: &[Line]) -> bool
+    requires threads { threads ≤ 8 }
+    requires count { length lines.now ≤ 65536 }
+    requires fits { All (λ l. CommandFits l.command) lines.now }
+    ensures { IsTrue result ↔ grammar.HaveRoom threads lines.now }
+{
+    for thread in 1..threads + 1 {
+        if room_of_thread(lines, thread) > REGION_WORDS {
+            return false;
+        }
+    }
+    true
+}
+
+fn is_built(script: &Script) -> bool
+    requires { Fits script.now }
+    ensures { IsTrue result ↔ grammar.IsBuilt script.now }
+{
+    script.cycles == 0 && have_room(script.layout.passes(), &script.lines)
+}
+
+/// The script that the bytes spell.
+///
+/// # Errors
+///
+/// `ScriptFault` with the first line that is at fault, `NotBuilt` for a script that is not built, and `OutOfMemory`,
+/// which has no cause of its own.
+pub fn read_built(alloc: Global, bytes: &[u8]) -> Result<Script, Status>
+    requires { length bytes.now < 2 ^ 31 }
+
+    // Each answer has its cause.
+    ensures ok { IfOk result (λ script. IsScript bytes.now script × grammar.IsBuilt script) }
+    ensures err { IfErr result (grammar.IsRefused bytes.now) }
+
+    // Each cause has its answer, unless memory runs out.
+    ensures built { (script : Reading) → IsScript bytes.now script → grammar.IsBuilt script
+        → (result ≡ Ok script) ⊎ (result ≡ Err Status.OutOfMemory) }
+    ensures not_built { (script : Reading) → IsScript bytes.now script → ¬ (grammar.IsBuilt script)
+        → (result ≡ Err Status.NotBuilt) ⊎ (result ≡ Err Status.OutOfMemory) }
+    ensures fault { (f : Fault) → IsFault bytes.now f
+        → (result ≡ Err (Status.ScriptFault f.0 f.1)) ⊎ (result ≡ Err Status.OutOfMemory) }
+{
+    match read_script(alloc, bytes) {
+        Ok(script) => {
+            if is_built(&script) {
+                Ok(script)
+            } else {
+                Err(Status::NotBuilt)
+            }
+        }
+        Err(ReadScriptFault::Script { line, kind }) => Err(Status::ScriptFault { line, kind }),
+        Err(ReadScriptFault::OutOfMemory) => Err(Status::OutOfMemory),
+    }
 }
 
 /// The words of a region that a command's object takes.
@@ -57,65 +289,5 @@ fn room_of(command: Command) -> u32
     }
 }
 
-/// Whether all lines are `new`, `get` or `put`.
-fn are_plain(lines: &[Line]) -> bool
-    requires { All (λ l. CommandFits l.command) lines.now }
-    ensures { IsTrue result ↔ All (λ l. IsPlainCommand l.command) lines.now }
-{
-    lines.iter().all(|line| is_plain(line.command))
-}
-
-/// The words that the objects of the lines take.
-fn room_of_all(lines: &[Line]) -> u32
-    requires count { length lines.now ≤ 65536 }
-    requires fits { All (λ l. CommandFits l.command) lines.now }
-    ensures { result ≡ sum_by (λ l. room_of_command l.command) lines.now }
-{
-    let mut room = 0;
-    for line in lines {
-        room += room_of(line.command);
-    }
-    room
-}
-
-fn is_built(script: &Script) -> bool
-    requires { Fits script.now }
-    ensures { IsTrue result ↔ IsBuilt script.now }
-{
-    script.layout.passes() == 1
-        && script.cycles == 0
-        && are_plain(&script.lines)
-        && room_of_all(&script.lines) <= REGION_WORDS
-}
-
-/// The script that the bytes are the plain text of, if it is one of those that this program plays.
-pub fn read_plain(alloc: Global, bytes: &[u8]) -> Result<Script, Status>
-    requires { length bytes.now < 2 ^ 31 }
-    ensures ok { IfOk result (λ script. IsBuilt script × (bytes.now ≡ text_of script)) }
-    ensures not_built { IsErrOf result Status.NotBuilt → ¬ (IsInput bytes.now) }
-    ensures only { IfErr result (λ e. (e ≡ Status.NotBuilt) ⊎ (e ≡ Status.OutOfMemory)) }
-{
-    match read_script(alloc, bytes) {
-        Ok(script) => {
-            if is_text_of(alloc, &script, bytes)? && is_built(&script) {
-                Ok(script)
-            } else {
-                Err(Status::NotBuilt)
-            }
-        }
-        Err(ReadScriptFault::Script { .. }) => Err(Status::NotBuilt),
-        Err(ReadScriptFault::OutOfMemory) => Err(Status::OutOfMemory),
-    }
-}
-
-/// Whether the bytes are the plain text of the script.
-fn is_text_of(alloc: Global, script: &Script, bytes: &[u8]) -> Result<bool, Status>
-    requires { Fits script.now }
-    ensures ok { IfOk result (λ same. IsTrue same ↔ (bytes.now ≡ text_of script.now)) }
-    ensures memory { IfErr result (λ e. e ≡ Status.OutOfMemory) }
-{
-    match print_script(alloc, script) {
-        Ok(text) => Ok(text.as_slice() == bytes),
-        Err(_) => Err(Status::OutOfMemory),
-    }
-}
+#[cfg(test)]
+mod tests;

@@ -1,10 +1,11 @@
 //! How the program ends.
 
 ghost use Rattle.std.specs.Prelude.{◌≡◌};
-ghost use Rattle.gc_tool.specs.Statuses.{exit_of, text_of};
+ghost use Rattle.gc_tool.specs.Statuses.{exit_of, kind_text as kind_text_of, text_of};
 
 use arrayvec::ArrayString;
 use call_steps::OutOfMemory;
+use heap_script::FaultKind;
 use itoa::Buffer;
 
 /// How a call of the program ended. With any other status than `Done` and `WriteFault` nothing was written.
@@ -12,10 +13,15 @@ use itoa::Buffer;
 pub enum Status {
     /// The whole output was written.
     Done,
+    /// The words are no form: the index of the first that is wrong, counted from 0, or the number of words where one
+    /// is missing.
+    Usage { index: u32 },
     /// The source failed.
     ReadFault,
     /// The source gave more than 1,048,576 bytes.
     TooLong,
+    /// The first line of the script that is at fault, counted from 1, and what is wrong with it.
+    ScriptFault { line: u32, kind: FaultKind },
     /// The sink failed. A prefix of the output was written.
     WriteFault,
     /// So many steps were taken, and a party had not ended.
@@ -42,12 +48,30 @@ pub fn exit_status(status: &Status) -> u8
 {
     match status {
         Status::Done => 0,
+        Status::Usage { .. } => 1,
         Status::ReadFault => 2,
         Status::TooLong => 3,
+        Status::ScriptFault { .. } => 4,
         Status::WriteFault => 5,
         Status::StepsSpent { .. } => 7,
         Status::OutOfMemory => 8,
         Status::NotBuilt => 9,
+    }
+}
+
+/// What is wrong with a line.
+fn kind_text(kind: FaultKind) -> &'static str
+    ensures { result.now ≡ kind_text_of kind }
+{
+    match kind {
+        FaultKind::NoHeapLine => "no heap line",
+        FaultKind::BadWord => "bad word",
+        FaultKind::BadNumber => "bad number",
+        FaultKind::BadThread => "bad thread",
+        FaultKind::BadRegister => "bad register",
+        FaultKind::TooManyLines => "too many lines",
+        FaultKind::NotAscii => "not ascii",
+        FaultKind::BadLayout => "bad layout",
     }
 }
 
@@ -58,8 +82,20 @@ pub fn status_text(status: &Status) -> ArrayString<160>
     let mut text = ArrayString::new();
     match status {
         Status::Done => {}
+        Status::Usage { index } => {
+            let mut digits = Buffer::new();
+            text.push_str("gc_tool: usage, word ");
+            text.push_str(digits.format(*index));
+        }
         Status::ReadFault => text.push_str("gc_tool: reading failed"),
         Status::TooLong => text.push_str("gc_tool: input too long"),
+        Status::ScriptFault { line, kind } => {
+            let mut digits = Buffer::new();
+            text.push_str("gc_tool: line ");
+            text.push_str(digits.format(*line));
+            text.push_str(", ");
+            text.push_str(kind_text(*kind));
+        }
         Status::WriteFault => text.push_str("gc_tool: writing failed"),
         Status::StepsSpent { n } => {
             let mut digits = Buffer::new();
@@ -77,12 +113,54 @@ pub fn status_text(status: &Status) -> ArrayString<160>
 mod tests {
     use super::*;
 
+    fn fault(line: u32, kind: FaultKind) -> Status {
+        Status::ScriptFault { line, kind }
+    }
+
     #[test]
     fn has_an_exit_status_and_a_text(rt: HostRuntime) {
         let cases = [
             (Status::Done, 0, ""),
+            (Status::Usage { index: 0 }, 1, "gc_tool: usage, word 0"),
+            (Status::Usage { index: 4 }, 1, "gc_tool: usage, word 4"),
             (Status::ReadFault, 2, "gc_tool: reading failed"),
             (Status::TooLong, 3, "gc_tool: input too long"),
+            (
+                fault(1, FaultKind::NoHeapLine),
+                4,
+                "gc_tool: line 1, no heap line",
+            ),
+            (fault(2, FaultKind::BadWord), 4, "gc_tool: line 2, bad word"),
+            (
+                fault(10, FaultKind::BadNumber),
+                4,
+                "gc_tool: line 10, bad number",
+            ),
+            (
+                fault(11, FaultKind::BadThread),
+                4,
+                "gc_tool: line 11, bad thread",
+            ),
+            (
+                fault(12, FaultKind::BadRegister),
+                4,
+                "gc_tool: line 12, bad register",
+            ),
+            (
+                fault(65538, FaultKind::TooManyLines),
+                4,
+                "gc_tool: line 65538, too many lines",
+            ),
+            (
+                fault(7, FaultKind::NotAscii),
+                4,
+                "gc_tool: line 7, not ascii",
+            ),
+            (
+                fault(3, FaultKind::BadLayout),
+                4,
+                "gc_tool: line 3, bad layout",
+            ),
             (Status::WriteFault, 5, "gc_tool: writing failed"),
             (Status::StepsSpent { n: 0 }, 7, "gc_tool: 0 steps spent"),
             (

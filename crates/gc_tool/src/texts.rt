@@ -1,13 +1,15 @@
 //! The text of a replay.
 
-ghost use Rattle.std.specs.Prelude.{◌≡◌, ℕ, ◌≤◌, ◌<◌, ◌+◌, ◌^◌, [], ◌∷◌, ◌++◌, length, IfOk, OnOk, decimal, codes};
-ghost use Rattle.std.specs.List.{flat_map};
+ghost use Rattle.std.specs.Prelude.{◌≡◌, ℕ, ◌≤◌, ◌<◌, ◌+◌, ◌^◌, [], ◌∷◌, ◌++◌, length, map, IfOk, OnOk, decimal, codes};
+ghost use Rattle.std.specs.List.{flat_map, All};
 ghost use Rattle.heap_script.specs.Text.{line_text};
-ghost use Rattle.gc_tool.specs.Texts.{object_word, place_word, value_word, thread_of, call_words, entry_text, answer_words, answers_text, replay_text};
+ghost use Rattle.heap_script.specs.AnswerLists.{lists_of};
+ghost use Rattle.gc_tool.specs.Texts.{object_word, place_word, value_word, thread_of, call_words, entry_text, answer_words, answers_text, all_answers_text, again_text, replay_text};
 
 use call_steps::OutOfMemory;
+use gc_cycle::Again;
 use heap_history::{Call, Entry, Reply, Value};
-use heap_script::Answer;
+use heap_script::{Answer, Answers};
 use itoa::Buffer;
 use std::alloc::{AllocError, Global};
 
@@ -267,20 +269,114 @@ fn push_answers(out: &mut Vec<u8>, thread: u32, answers: &[Answer]) -> Result<()
     Ok(())
 }
 
-/// The entries, the answers of the only thread, and the end.
+/// The answers of all threads, thread 1's first.
+fn push_all_answers(out: &mut Vec<u8>, lists: &[Vec<Answer>]) -> Result<(), AllocError>
+    requires threads { length lists.now < 2 ^ 31 }
+    requires answers { All (λ list. length list < 2 ^ 31) (map (λ list. list.items) lists.now) }
+    ensures { OnOk result (out.new.items ≡ out.old.items ++ all_answers_text 1 (map (λ list. list.items) lists.now)) }
+{
+    let mut thread = 1u32;
+    for answers in lists {
+        push_answers(out, thread, answers)?;
+        thread += 1;
+    }
+    Ok(())
+}
+
+/// How often tries were refused in one way.
+fn push_count(out: &mut Vec<u8>, name: &[u8], n: u64) -> Result<(), AllocError>
+    ensures { OnOk result (out.new.items ≡ out.old.items ++ flat_map (λ v. 32 ∷ v) (name.now ∷ decimal n ∷ [])) }
+{
+    push_word(out, name)?;
+    out.push(b' ')?;
+    push_number(out, n)
+}
+
+/// A command has a line where a try of it was refused.
+fn push_again(out: &mut Vec<u8>, again: &Again) -> Result<(), AllocError>
+    ensures { OnOk result (out.new.items ≡ out.old.items ++ again_text again.now) }
+{
+    if again.raced == 0 && again.busy == 0 {
+        return Ok(());
+    }
+    out.extend_from_slice(b"again")?;
+    push_spaced_number(out, again.thread)?;
+    push_spaced_number(out, again.number)?;
+    push_count(out, b"raced", again.raced)?;
+    push_count(out, b"busy", again.busy)?;
+    out.push(b'\n')?;
+    Ok(())
+}
+
+/// The entries, the commands whose tries were refused, the answers of all threads, and the end.
 pub fn print_replay(
     alloc: Global,
     entries: &[Entry],
-    answers: &[Answer],
+    agains: &[Again],
+    answers: &Answers,
 ) -> Result<Vec<u8>, OutOfMemory>
-    requires { length answers.now < 2 ^ 31 }
-    ensures { IfOk result (λ text. text.items ≡ replay_text entries.now (answers.now ∷ [])) }
+    requires threads { length (lists_of answers.now) < 2 ^ 31 }
+    requires answers { All (λ list. length list < 2 ^ 31) (lists_of answers.now) }
+    ensures { IfOk result (λ text. text.items ≡ replay_text entries.now agains.now (lists_of answers.now)) }
 {
     let mut out = Vec::new(alloc);
     for entry in entries {
         push_entry(&mut out, entry)?;
     }
-    push_answers(&mut out, 1, answers)?;
+    for again in agains {
+        push_again(&mut out, again)?;
+    }
+    push_all_answers(&mut out, &answers.lists)?;
     out.extend_from_slice(b"end\n")?;
     Ok(out)
+}
+
+#[cfg(test)]
+mod tests {
+    use super::*;
+    use std::test::Fail;
+
+    #[test]
+    fn tells_entries_refused_tries_and_answers(rt: HostRuntime) -> Result<(), Fail> {
+        let alloc = rt.alloc();
+        let entries = [Entry {
+            call: Call::NewObject {
+                pass: 2,
+                birth: 1_048_577,
+                len: 3,
+            },
+            reply: Reply::Made,
+        }];
+        let agains = [
+            Again {
+                thread: 1,
+                number: 1,
+                raced: 2,
+                busy: 0,
+            },
+            Again {
+                thread: 1,
+                number: 2,
+                raced: 0,
+                busy: 0,
+            },
+            Again {
+                thread: 2,
+                number: 1,
+                raced: 3,
+                busy: 18_446_744_073_709_551_615,
+            },
+        ];
+        let mut lists = Vec::new(alloc);
+        lists.push([Answer::NotLink, Answer::Ok].to_vec(alloc)?)?;
+        lists.push([Answer::Made(1_048_577)].to_vec(alloc)?)?;
+        let text = print_replay(alloc, &entries, &agains, &Answers { lists })
+            .ok()
+            .ok_or("out of memory")?;
+        assert_eq!(rt;
+            text.as_slice(),
+            b"entry 2 new #2.1 3 made\nagain 1 1 raced 2 busy 0\nagain 2 1 raced 3 busy 18446744073709551615\nanswer 1 1 nolink\nanswer 1 2 ok\nanswer 2 1 #2.1\nend\n".as_slice()
+        );
+        Ok(())
+    }
 }

@@ -7,7 +7,8 @@ use Rattle.heap_history.specs.declared.call.Call.TheVariants.{NewObject, Read, W
 use Rattle.heap_history.specs.declared.call.Reply.TheVariants.{Made, Got, Wrote, NotThere}
 use Rattle.heap_history.specs.declared.call.Entry.{Entry}
 use Rattle.heap_history.specs.FixedHeaps.{opening}
-use Rattle.heap_history.specs.Histories.{IsAccepted, IsFirstBad, IsLegal, Ended, pass_of, changes}
+use Rattle.heap_history.specs.declared.call.Ended.{Ended}
+use Rattle.heap_history.specs.Histories.{IsAccepted, IsFirstBad, IsLegal, pass_of, changes}
 
 abbrev made : Call
 made = NewObject 1 524289 2

@@ -6,6 +6,7 @@ use Rattle.heap_history.specs.declared.call.Call.TheVariants.{NewObject, Read, W
 use Rattle.heap_history.specs.declared.call.Reply.{Reply}
 use Rattle.heap_history.specs.declared.call.Reply.TheVariants.{Made, Wrote, Done, NotThere}
 use Rattle.heap_history.specs.declared.call.Entry.{Entry}
+use Rattle.heap_history.specs.declared.call.Ended.{Ended}
 use Rattle.heap_history.specs.FixedHeaps.{Heap, opening, answer, after}
 
 abbrev pub pass_of : Call → ℕ
@@ -66,13 +67,6 @@ made_by pass history = filter (λ c. pass_of c == pass) history
 -- what stands behind the first n changes, up to the m-th
 abbrev pub between : ℕ → ℕ → List Call → List Call
 between n m history = take (m - n) (drop n history)
-
--- An ended call with its reply and its front: of a change the number of changes with it, of a look the
--- number of changes that it saw.
-pub record Ended : Type 0 where
-  pub call : Call
-  pub reply : Reply
-  pub front : ℕ
 
 abbrev pub change_of : Call → Reply → List Call
 change_of call reply = if is_change reply then call ∷ [] else []

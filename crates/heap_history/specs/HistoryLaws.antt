@@ -23,8 +23,9 @@ use Rattle.heap_history.specs.declared.call.Call.TheVariants.{NewObject, Read, W
 use Rattle.heap_history.specs.declared.call.Reply.{Reply}
 use Rattle.heap_history.specs.declared.call.Reply.TheVariants.{Made, Got, Wrote, Done, Differs, NotThere}
 use Rattle.heap_history.specs.declared.call.Entry.{Entry}
+use Rattle.heap_history.specs.declared.call.Ended.{Ended}
 use Rattle.heap_history.specs.FixedHeaps.{Heap, opening, fields_of, field_in, value_in, with_field, write_in, answer, changed, after}
-use Rattle.heap_history.specs.Histories.{pass_of, is_change, IsAccepted, heap_after, calls, changes, heap_at, IsHistory, made_by, between, Ended, change_of, seen_before, IsNext, IsFirstBad}
+use Rattle.heap_history.specs.Histories.{pass_of, is_change, IsAccepted, heap_after, calls, changes, heap_at, IsHistory, made_by, between, change_of, seen_before, IsNext, IsFirstBad}
 
 -- ---- the fields of an object after a change
 

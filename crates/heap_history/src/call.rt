@@ -54,3 +54,12 @@ pub struct Entry {
     pub call: Call,
     pub reply: Reply,
 }
+
+/// A call that has ended, with its reply and its front: of a change how many changes there were with it, of a
+/// look how many changes it saw.
+#[derive(Clone, Copy, Debug, PartialEq, Eq)]
+pub struct Ended {
+    pub call: Call,
+    pub reply: Reply,
+    pub front: u32,
+}

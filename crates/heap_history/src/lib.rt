@@ -5,7 +5,7 @@ mod call;
 mod check;
 mod fixed_heap;
 
-pub use call::{Call, Entry, Reply, Value};
+pub use call::{Call, Ended, Entry, Reply, Value};
 pub use check::{CheckFault, check_history};
 pub use fixed_heap::{FixedHeap, OutOfMemory};
 

@@ -5,3 +5,4 @@ pub mod Grammar
 pub mod FirstFault
 pub mod Text
 pub mod Gives
+pub mod AnswerLists

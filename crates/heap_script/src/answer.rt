@@ -1,7 +1,6 @@
 //! What the commands of a script are answered.
 
 use heap_history::Value;
-use std::marker::Model;
 
 /// The answer to one command.
 #[derive(Clone, Copy, Debug, PartialEq, Eq)]
@@ -28,13 +27,4 @@ pub enum Answer {
 #[derive(Debug, Drop)]
 pub struct Answers {
     pub lists: Vec<Vec<Answer>>,
-}
-
-impl Model for Answers {
-    ghost use Rattle.std.specs.Prelude.{List, map};
-    ghost use Rattle.heap_script.specs.declared.answer.Answer.{Answer};
-
-    ghost Value = { List (List Answer) };
-
-    ghost view = { λ a. map (λ list. list.items) a.lists.items };
 }

@@ -1,5 +1,6 @@
 use super::*;
 use crate::memory::{MemorySink, MemorySource};
+use heap_script::FaultKind;
 use std::process::Abort;
 use std::test::Fail;
 
@@ -38,48 +39,113 @@ fn sink_of(
     Ok(MemorySink::new(alloc, 1000, piece, fails.to_vec(alloc)?)?)
 }
 
+const ONE_THREAD: &str = "heap 1 threads 4 quota 8 pool 256 wide 0 cycles\n";
+
+const RACE: &str =
+    "heap 2 threads 1 quota 2 pool 16 wide 0 cycles\n1 cas a h.0 0 1\n2 cas a h.0 0 2\n";
+
+const RACE_OUTPUT: &str =
+    "entry 1 cas #0.1.0 0 1 done\nentry 2 cas #0.1.0 0 2 differs 1\nanswer 1 1 done\nanswer 2 1 differs 1\nend\n";
+
+// Plays an input by these words, and compares the status and what was written.
+fn expect_play(
+    rt: &impl Abort,
+    alloc: Global,
+    words: &str,
+    input: &[u8],
+    status: Status,
+    output: &[u8],
+) -> Result<(), Fail> {
+    let never: [u32; 0] = [];
+    let mut source = source_of(rt, alloc, input, 1, &never)?;
+    let mut sink = sink_of(rt, alloc, 1, &never)?;
+    let played = run_plain(alloc, &words_of(alloc, words)?, &mut source, &mut sink);
+    assert_eq!(rt; played, status, "{words}");
+    assert_eq!(rt; sink.bytes(), output, "{words}");
+    Ok(())
+}
+
 #[test]
 fn plays_a_script_or_says_why_not(rt: HostRuntime) -> Result<(), Fail> {
     let alloc = rt.alloc();
-    let never: [u32; 0] = [];
     let unended = SESSION.strip_suffix(b"\n").ok_or("no line end")?;
-    let past_the_end = b"heap 1 threads 4 quota 8 pool 256 wide 0 cycles\n1 get a h.8\n".as_slice();
-    let no_object = b"heap 1 threads 4 quota 8 pool 256 wide 0 cycles\n1 get a b.0\n".as_slice();
-
-    // The words, the input, the status and the output.
     let cases = [
         ("replay stopless solo 10", SESSION, Status::Done, OUTPUT),
+        ("replay stopless even 10", SESSION, Status::Done, OUTPUT),
+        ("replay stopless 7 10", unended, Status::Done, OUTPUT),
         (
             "replay stopless solo 9",
             SESSION,
             Status::StepsSpent { n: 9 },
             b"",
         ),
-        ("replay stopless solo 10", unended, Status::NotBuilt, b""),
         (
-            "replay stopless solo 2",
-            past_the_end,
+            "replay stopless solo 1000",
+            RACE.as_bytes(),
             Status::Done,
-            b"answer 1 1 nofield 8\nend\n",
+            RACE_OUTPUT.as_bytes(),
         ),
         (
-            "replay stopless solo 1",
-            no_object,
+            "replay stopless even 1000",
+            RACE.as_bytes(),
             Status::Done,
-            b"answer 1 1 nolink\nend\n",
+            RACE_OUTPUT.as_bytes(),
         ),
     ];
     for (words, input, status, output) in cases {
-        let mut source = source_of(&rt, alloc, input, 1, &never)?;
-        let mut sink = sink_of(&rt, alloc, 1, &never)?;
-        assert_eq!(rt;
-            run_plain(alloc, &words_of(alloc, words)?, &mut source, &mut sink),
-            status,
-            "{words}"
-        );
-        assert_eq!(rt; sink.bytes(), output, "{words}");
+        expect_play(&rt, alloc, words, input, status, output)?;
     }
     Ok(())
+}
+
+// The commands of a script of one thread, the status, and what is written.
+#[test]
+fn tells_refusals_and_faults(rt: HostRuntime) -> Result<(), Fail> {
+    let alloc = rt.alloc();
+    let cases = [
+        ("1 get a b.0\n", Status::Done, "answer 1 1 nolink\nend\n"),
+        ("1 get a h.8\n", Status::Done, "answer 1 1 nofield 8\nend\n"),
+        (
+            "1 put h.29 1\n",
+            Status::Done,
+            "answer 1 1 nofield 8\nend\n",
+        ),
+        (
+            "1 copy a h\n1 drop h\n1 poll\n1 get b h.0\n",
+            Status::Done,
+            "answer 1 1 ok\nanswer 1 2 ok\nanswer 1 3 ok\nanswer 1 4 nolink\nend\n",
+        ),
+        (
+            "; nothing\n1 drop i\n",
+            Status::ScriptFault {
+                line: 3,
+                kind: FaultKind::BadRegister,
+            },
+            "",
+        ),
+        ("1 new a 30\n1 new a 30\n1 new a 2\n", Status::NotBuilt, ""),
+    ];
+    for (commands, status, output) in cases {
+        let mut input = String::from_str(alloc, ONE_THREAD)?;
+        input.push_str(commands)?;
+        expect_play(
+            &rt,
+            alloc,
+            "replay stopless solo 100",
+            input.as_bytes(),
+            status,
+            output.as_bytes(),
+        )?;
+    }
+    let cycle = b"heap 1 threads 4 quota 8 pool 256 wide 1 cycles\n";
+    expect_play(
+        &rt,
+        alloc,
+        "replay stopless solo 100",
+        cycle,
+        Status::NotBuilt,
+        b"",
+    )
 }
 
 #[test]
@@ -87,18 +153,18 @@ fn reads_nothing_for_other_words(rt: HostRuntime) -> Result<(), Fail> {
     let alloc = rt.alloc();
     let never: [u32; 0] = [];
     let cases = [
-        "",
-        "replay stopless solo 0",
-        "replay stopless solo 1000000001",
-        "replay chicken solo 10",
-        "replay stopless solo 000000000000000000010",
+        ("", Status::Usage { index: 0 }),
+        ("run brooks", Status::Usage { index: 1 }),
+        ("replay stopless solo 0", Status::Usage { index: 3 }),
+        ("replay chicken solo 10", Status::NotBuilt),
+        ("check", Status::NotBuilt),
     ];
-    for words in cases {
+    for (words, status) in cases {
         let mut source = source_of(&rt, alloc, SESSION, 16, &never)?;
         let mut sink = sink_of(&rt, alloc, 10, &never)?;
         assert_eq!(rt;
             run_plain(alloc, &words_of(alloc, words)?, &mut source, &mut sink),
-            Status::NotBuilt,
+            status,
             "{words}"
         );
         assert!(rt; sink.bytes().is_empty(), "{words}");

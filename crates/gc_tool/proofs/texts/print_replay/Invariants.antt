@@ -1,7 +1,10 @@
-use Rattle.std.proofs.Common.{◌≡◌, take}
+use Rattle.std.proofs.Common.{◌≡◌, ◌++◌, take}
 use Rattle.std.specs.List.{flat_map}
-use Rattle.gc_tool.specs.Texts.{entry_text}
+use Rattle.gc_tool.specs.Texts.{entry_text, again_text}
 use Rattle.gc_tool.proofs.texts.print_replay.Given as goal
 
 abbrev pub invariant-loop-entry : goal.invariant-loop-entry
 invariant-loop-entry l = l.out.items ≡ flat_map entry_text (take l.entry-index l.entries)
+
+abbrev pub invariant-loop-again : goal.invariant-loop-again
+invariant-loop-again l = l.out.items ≡ l.initial.out.items ++ flat_map again_text (take l.again-index l.agains)

@@ -1,0 +1,71 @@
+-- The parties that have not ended, and runs under a schedule.
+use Rattle.std.proofs.Common.{◌≡◌, ℕ, zero, suc, ◌+◌, ◌-◌, ◌<◌, Bool, true, false, List, [], ◌∷◌, ◌++◌, length, cond, eqb, not, refl, sym, ap, ◌∙◌, subst, arith}
+use Rattle.std.specs.Prelude.{Contains}
+use Rattle.std.specs.List.{All, filter, range_with_len}
+use Rattle.std.proofs.lemmas.Bool.Decides.{nat_tests}
+use Rattle.std.proofs.lemmas.List.{map-id, append-nil}
+use Rattle.std.proofs.lemmas.List.Elements.{All-filter, All-contains}
+use Rattle.std.proofs.lemmas.List.FromFn.{length-range_with_len, get_or-range_with_len, filter_of_map_range_with_len_more}
+use Rattle.heap_words.specs.Layouts.{IsPass}
+use Rattle.gc_cycle.specs.declared.schedule.Chooser.{Chooser}
+use Rattle.gc_cycle.specs.Schedules.{chosen_by}
+use Rattle.gc_cycle.specs.Worlds.{State, pass_at, is_idle, turn_of}
+use Rattle.gc_cycle.specs.Runs.{ready_of, is_none, is_over, turns_of}
+
+-- ---- the parties that have not ended
+
+-- those among the first so many
+abbrev pub ready_among : State → ℕ → List ℕ
+ready_among w n = filter (λ party. not (is_idle (pass_at w party).machine)) (range_with_len 1 n)
+
+ready_more : (w : State) (n : ℕ) → ready_among w (n + 1) ≡ ready_among w n ++ cond (not (is_idle (pass_at w (n + 1)).machine)) ((n + 1) ∷ []) []
+ready_more w n = rw (map-id, map-id) at (filter_of_map_range_with_len_more (λ party. not (is_idle (pass_at w party).machine)) (λ (x : ℕ). x) 1 n (n + 1) (omega arith))
+
+-- one more that has not ended, and one that has
+pub ready_with : (w : State) (n : ℕ) (ready : List ℕ) → ready ≡ ready_among w n → is_idle (pass_at w (n + 1)).machine ≡ false → ready ++ (n + 1) ∷ [] ≡ ready_among w (n + 1)
+ready_with w n ready so_far on = sym (ready_more w n ∙ (rw (on, so_far) refl))
+
+pub ready_without : (w : State) (n : ℕ) (ready : List ℕ) → ready ≡ ready_among w n → is_idle (pass_at w (n + 1)).machine ≡ true → ready ≡ ready_among w (n + 1)
+ready_without w n ready so_far ended = so_far ∙ sym (ready_more w n ∙ (rw ended (append-nil (ready_among w n))))
+
+-- each of them is a pass
+pub ready_is_pass : (w : State) (party : ℕ) → length w.passes ≡ w.layout.passes → Contains (ready_of w) party → IsPass w.layout party
+ready_is_pass w party passes among =
+    let test : ℕ → Bool = λ party. not (is_idle (pass_at w party).machine) in
+    let numbers : All (IsPass w.layout) (range_with_len 1 (length w.passes)) = λ i d within.
+    let below : i < length w.passes = omega (arith, within, length-range_with_len 1 (length w.passes)) in
+    subst (IsPass w.layout) (sym (get_or-range_with_len 1 (length w.passes) i d below)) (omega arith, omega (arith, below, passes)) in
+    All-contains (IsPass w.layout) (ready_of w) party (All-filter test (IsPass w.layout) (range_with_len 1 (length w.passes)) numbers) among
+
+-- ---- runs
+
+-- whether there is none, by the length
+pub is_none-length : (ready : List ℕ) → is_none ready ≡ eqb (length ready) 0
+is_none-length [] = refl
+is_none-length (party ∷ rest) = grind (arith, nat_tests)
+
+pub turns_of-over : (n : ℕ) (chooser : Chooser) (w : State) → is_over w ≡ true → turns_of n chooser w ≡ w
+turns_of-over zero chooser w over = refl
+turns_of-over (suc n) chooser w over = rw over refl
+
+-- a turn more of so many, of which some are taken
+pub turns_of-next : (n taken : ℕ) (chooser : Chooser) (w : State) → taken < n → is_over w ≡ false
+    → turns_of (n - taken) chooser w ≡ turns_of (n - (taken + 1)) (chosen_by chooser (ready_of w)).1 (turn_of w (chosen_by chooser (ready_of w)).0)
+turns_of-next n taken chooser w below on =
+    let some : n - taken ≡ suc (n - (taken + 1)) = omega arith in
+    rw some (rw on refl)
+
+-- the same of the list, the party and the chooser that the code keeps
+pub turns_of-took : (n taken : ℕ) (chooser after : Chooser) (w new : State) (ready : List ℕ) (party : ℕ) → taken < n → is_over w ≡ false → ready ≡ ready_of w
+    → (party, after) ≡ chosen_by chooser ready → new ≡ turn_of w party → turns_of (n - (taken + 1)) after new ≡ turns_of (n - taken) chooser w
+turns_of-took n taken chooser after w new ready party below on is_ready chosen turned =
+    let named : (party, after) ≡ chosen_by chooser (ready_of w) = chosen ∙ ap (chosen_by chooser) is_ready in
+    let who : party ≡ (chosen_by chooser (ready_of w)).0 = ap (λ (c : ℕ × Chooser). c.0) named in
+    let then : after ≡ (chosen_by chooser (ready_of w)).1 = ap (λ (c : ℕ × Chooser). c.1) named in
+    let next = turns_of-next n taken chooser w below on in
+    ap (turns_of (n - (taken + 1)) after) turned ∙ ap (λ p. turns_of (n - (taken + 1)) after (turn_of w p)) who
+    ∙ ap (λ c. turns_of (n - (taken + 1)) c (turn_of w (chosen_by chooser (ready_of w)).0)) then ∙ sym next
+
+-- whether all have ended, of the list that the code keeps
+pub is_over-by : (w : State) (ready : List ℕ) (empty : Bool) → ready ≡ ready_of w → empty ≡ eqb (length ready) 0 → is_over w ≡ empty
+is_over-by w ready empty is_ready tested = ap is_none (sym is_ready) ∙ is_none-length ready ∙ sym tested

@@ -1,0 +1,41 @@
+use Rattle.std.proofs.Common.{◌≡◌, ◌-◌, ◌∙◌, sym, ap, subst, arith, Contains}
+use Rattle.gc_cycle.specs.Runs.{turns_of}
+use Rattle.gc_cycle.proofs.Running.{turns_of-over, turns_of-took, is_over-by, ready_is_pass}
+use Rattle.gc_cycle.proofs.world.World.run.Goals as goal
+
+pub ready-ready-requires : goal.ready-ready-requires
+ready-ready-requires c = c.loop.invariant.lawful
+
+pub returns-then-is_empty-clause-taken : goal.returns-then-is_empty-clause-taken
+returns-then-is_empty-clause-taken c =
+    let over = is_over-by c.loop.self c.ready-ready.result.items _ c.ready-ready.ensures c.is_empty.ensures ∙ c.if-is_empty.true in
+    sym (turns_of-over (c.args.steps - c.loop.counter) c.loop.chooser c.loop.self over) ∙ c.loop.invariant.same
+
+pub turn-requires-clause-party : goal.turn-requires-clause-party
+turn-requires-clause-party c =
+    let items = c.as_slice.ensures.value ∙ c.ready-ready.ensures in
+    ready_is_pass c.loop.self c.choose-party.result c.loop.invariant.lawful.passes (subst (λ ready. Contains ready c.choose-party.result) items c.choose-party.ensures.ready)
+
+pub loop-preserved : goal.loop-preserved
+loop-preserved c =
+    let items = c.as_slice.ensures.value ∙ c.ready-ready.ensures in
+    let on = is_over-by c.loop.self c.ready-ready.result.items _ c.ready-ready.ensures c.is_empty.ensures ∙ c.if-is_empty.false in
+    record {
+      same = turns_of-took c.args.steps c.loop.counter c.loop.chooser c.choose-party.new.self c.loop.self c.turn.new.self c.as_slice.result.now c.choose-party.result
+          c.loop-test.true on items c.choose-party.ensures.chosen c.turn.ensures.turn ∙ c.loop.invariant.same;
+      lawful = c.turn.ensures.lawful;
+      layout = c.turn.ensures.layout ∙ c.loop.invariant.layout;
+    }
+
+pub ready-requires : goal.ready-requires
+ready-requires c = c.loop.invariant.lawful
+
+pub returns-then-is_empty-2-clause-taken : goal.returns-then-is_empty-2-clause-taken
+returns-then-is_empty-2-clause-taken c =
+    let none_left : c.args.steps - c.loop.counter ≡ 0 = omega arith in
+    sym (ap (λ n. turns_of n c.loop.chooser c.loop.self) none_left) ∙ c.loop.invariant.same
+
+pub returns-else-is_empty-2-clause-taken : goal.returns-else-is_empty-2-clause-taken
+returns-else-is_empty-2-clause-taken c =
+    let none_left : c.args.steps - c.loop.counter ≡ 0 = omega arith in
+    sym (ap (λ n. turns_of n c.loop.chooser c.loop.self) none_left) ∙ c.loop.invariant.same

@@ -1,0 +1,192 @@
+//! The world of a script at its start.
+
+ghost use Rattle.std.specs.Prelude.{◌≡◌, ◌≤◌, ◌↔◌, ℕ, length, IsTrue, IfOk};
+ghost use Rattle.std.specs.List.{All};
+ghost use Rattle.heap_words.specs.Layouts.{IsLayout, IsPass};
+ghost use Rattle.heap_script.specs.Allowed.{commands_of};
+ghost use Rattle.heap_script.specs.Scripts.{Fits, CommandFits};
+ghost use Rattle.gc_cycle.specs.Commands.{commands_at};
+ghost use Rattle.gc_cycle.specs.Lawful.{Lawful, rooms_of, room_of as room_of_command};
+ghost use Rattle.gc_cycle.specs.Worlds.{opening_words as opening_words_of, opening_registers as opening_registers_of, fresh_pass as fresh_pass_of, opening_pass as opening_pass_of, opening_passes as opening_passes_of, opening_state};
+
+use super::World;
+use crate::commands::Commands;
+use crate::settling::poll_before;
+use crate::told::Told;
+use barriers::{PassMachine, PassRecord, Room};
+use call_steps::{OutOfMemory, PlainWords, Step};
+use handshakes::PassView;
+use heap_script::{Command, Line, Script};
+use heap_words::{FieldWord, Layout};
+use object_headers::{Colour, Header, State};
+use space_reclaim::RegionWord;
+use std::alloc::Global;
+
+/// The header of the object that is there from the start.
+const COMMON: Header = Header {
+    state: State::Plain,
+    colour: Colour::Even,
+    len: 8,
+    birth: 1,
+    target: 0,
+};
+
+/// The words of a region.
+const REGION_WORDS: u32 = 64;
+
+/// All words are 0, but region 0 is Filled and has the object that is there from the start.
+fn opening_words(alloc: Global, layout: &Layout) -> Result<PlainWords, OutOfMemory>
+    ensures { IfOk result (λ words. words ≡ opening_words_of layout.now) }
+{
+    let mut words = PlainWords::zeros(alloc, layout.words())?;
+    words.apply(Step::Store {
+        at: layout.region_at(0),
+        put: RegionWord::Filled.pack(),
+    });
+    words.apply(Step::Store {
+        at: layout.first_word(0),
+        put: COMMON.pack(),
+    });
+    Ok(words)
+}
+
+/// Register `h` leads to that object.
+fn opening_registers(layout: &Layout) -> [FieldWord; 8]
+    requires { IsLayout layout.now }
+    ensures { result ≡ opening_registers_of layout.now }
+{
+    let mut registers = [FieldWord::Num(0); 8];
+    registers[7] = FieldWord::Link {
+        birth: COMMON.birth,
+        at: layout.first_word(0),
+    };
+    registers
+}
+
+/// A pass that is in no machine.
+fn fresh_pass(layout: &Layout, party: u32) -> PassRecord
+    requires { IsLayout layout.now }
+    ensures { result ≡ fresh_pass_of layout.now party }
+{
+    PassRecord {
+        view: PassView {
+            pass: party,
+            acked: 0,
+            mark: 0,
+        },
+        registers: opening_registers(layout),
+        machine: PassMachine::Idle,
+        room: Room {
+            region: None,
+            used: 0,
+            last: None,
+        },
+        made: 0,
+        seen: 0,
+    }
+}
+
+/// A pass before its first command, if it has one.
+fn opening_pass(layout: &Layout, commands: &Commands, party: u32) -> PassRecord
+    requires layout { IsLayout layout.now }
+    requires pass { IsPass layout.now party }
+    requires commands { party ≤ length commands.now }
+    ensures { result ≡ opening_pass_of layout.now (commands_at commands.now party) party }
+{
+    let pass = fresh_pass(layout, party);
+    if commands.count(party) == 0 {
+        return pass;
+    }
+    PassRecord {
+        machine: poll_before(layout, pass),
+        ..pass
+    }
+}
+
+/// The passes of all threads.
+fn opening_passes(
+    alloc: Global,
+    layout: &Layout,
+    commands: &Commands,
+) -> Result<Vec<PassRecord>, OutOfMemory>
+    requires { length commands.now ≡ layout.now.passes }
+    ensures { IfOk result (λ passes. passes.items ≡ opening_passes_of layout.now 1 commands.now) }
+{
+    let mut passes = Vec::new(alloc);
+    for thread in 0..layout.passes() {
+        passes.push(opening_pass(layout, commands, thread + 1))?;
+    }
+    Ok(passes)
+}
+
+fn layout_of(script: &Script) -> &Layout
+    ensures { result.now ≡ script.now.layout }
+{
+    &script.layout
+}
+
+/// The words of a region that a command's object takes.
+fn room_of(command: Command) -> u32
+    requires { CommandFits command }
+    ensures value { result ≡ room_of_command command }
+    ensures small { result ≤ 31 }
+{
+    match command {
+        Command::New { len, .. } => len + 1,
+        _ => 0,
+    }
+}
+
+/// The words that the objects of a thread take.
+fn room_of_thread(lines: &[Line], thread: u32) -> u32
+    requires count { length lines.now ≤ 65536 }
+    requires fits { All (λ l. CommandFits l.command) lines.now }
+    ensures { result ≡ rooms_of (commands_of thread lines.now) }
+{
+    let mut room = 0;
+    for line in lines {
+        if line.thread == thread {
+            room += room_of(line.command);
+        }
+    }
+    room
+}
+
+impl World {
+    /// Whether the objects of each thread fit one region.
+    pub fn has_room_for(script: &Script) -> bool
+        requires { Fits script.now }
+        ensures { IsTrue result ↔ ((t : ℕ) → IsPass script.now.layout t
+            → rooms_of (commands_of t script.now.lines) ≤ 64) }
+    {
+        let threads = layout_of(script).passes();
+        for index in 0..threads {
+            if room_of_thread(&script.lines, index + 1) > REGION_WORDS {
+                return false;
+            }
+        }
+        true
+    }
+
+    /// The world of a script at its start. All memory is taken here.
+    pub fn new(alloc: Global, script: &Script) -> Result<World, OutOfMemory>
+        requires fits { Fits script.now }
+        requires rooms { (t : ℕ) → IsPass script.now.layout t
+            → rooms_of (commands_of t script.now.lines) ≤ 64 }
+        ensures opening { IfOk result (λ w. w ≡ opening_state script.now) }
+        ensures lawful { IfOk result Lawful }
+    {
+        let layout = *layout_of(script);
+        let words = opening_words(alloc, &layout)?;
+        let commands = Commands::of_lines(alloc, &script.lines, layout.passes())?;
+        let passes = opening_passes(alloc, &layout, &commands)?;
+        let told = Told::opening(alloc, &commands)?;
+        Ok(World {
+            layout,
+            commands,
+            words,
+            passes,
+            told,
+        })
+    }
+}

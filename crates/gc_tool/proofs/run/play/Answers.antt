@@ -1,0 +1,9 @@
+use Rattle.std.proofs.lemmas.Result.{IfOk-weaker}
+use Rattle.gc_tool.proofs.Headline.{printed_output, ok_is}
+use Rattle.gc_tool.proofs.run.play.Goals as goal
+
+pub returns-in-Ok-clause-output : goal.returns-in-Ok-clause-output
+returns-in-Ok-clause-output c =
+    IfOk-weaker c.text_of.result _ _
+    (λ text printed. printed_output c.args.script.now c.args.replay c.requires _ _ c.in_ok-world.ensures.opening c.run.ensures.taken (c.run.ensures.ended.0 (ok_is c.run.result _ c.in-Ok.is)) text.items printed)
+    c.text_of.ensures.text
