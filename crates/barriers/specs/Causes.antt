@@ -1,21 +1,23 @@
 -- Why the calls of objects at rest end as they do, whatever others do meanwhile.
-use Rattle.std.specs.Prelude.{◌≡◌, ◌≢◌, ℕ, ◌≤◌, nat_lt, Bool, true, false, List, [], ◌∷◌, refl, if◌then◌else◌}
+use Rattle.std.specs.Prelude.{◌≡◌, ◌≢◌, ℕ, ◌≤◌, nat_lt, Bool, true, false, List, [], ◌∷◌, ◌++◌, refl, if◌then◌else◌}
 use Rattle.std.specs.Option.{ForSome}
-use Rattle.std.proofs.Common.{subst, ap}
+use Rattle.std.proofs.Common.{sym, subst, ap, inl, inr}
 use Rattle.std.proofs.lemmas.Bool.{ltb-false}
-use Rattle.call_steps.specs.declared.step.Step.{Step}
 use Rattle.call_steps.specs.declared.step.Step.TheVariants.{Load, Store, Ended}
 use Rattle.heap_words.specs.declared.field_word.FieldWord.{FieldWord}
 use Rattle.heap_words.specs.FieldWords.{field_at}
 use Rattle.object_headers.specs.Headers.{header_at}
+use Rattle.handshakes.specs.declared.phase_word.Phase.{Phase}
+use Rattle.handshakes.specs.Follows as follows
 use Rattle.barriers.specs.declared.spot.Spot.{Spot}
+use Rattle.barriers.specs.declared.ends.TryRefusal.{TryRefusal}
 use Rattle.barriers.specs.declared.ends.TryRefusal.TheVariants as refusal
 use Rattle.barriers.specs.declared.ends.ReadEnd.{ReadEnd}
 use Rattle.barriers.specs.declared.ends.ReadEnd.TheVariants as read_end
 use Rattle.barriers.specs.declared.ends.WriteEnd.{WriteEnd}
+use Rattle.barriers.specs.declared.ends.WriteEnd.TheVariants as write_end
 use Rattle.barriers.specs.declared.ends.ExchangeEnd.{ExchangeEnd}
 use Rattle.barriers.specs.declared.ends.ExchangeEnd.TheVariants as exchange_end
-use Rattle.barriers.specs.declared.ends.WriteEnd.TheVariants as write_end
 use Rattle.barriers.specs.declared.plain_exchange.Swap.{Swap}
 use Rattle.barriers.specs.declared.plain_exchange.PlainExchange.{PlainExchange}
 use Rattle.barriers.specs.declared.plain_exchange.PlainExchange.TheVariants as plain
@@ -25,7 +27,8 @@ use Rattle.barriers.specs.declared.write.WriteMachine.{WriteMachine}
 use Rattle.barriers.specs.declared.write.WriteMachine.TheVariants as write
 use Rattle.barriers.specs.declared.exchange.ExchangeMachine.{ExchangeMachine}
 use Rattle.barriers.specs.declared.exchange.ExchangeMachine.TheVariants as exchange
-use Rattle.barriers.specs.Ending.{LastStep, EndsOnlyFor, after, taken, kept}
+use Rattle.barriers.specs.Ending.{Taken, LastStep, EndsOnlyFor, up_to, step_of, ends_only_for}
+use Rattle.barriers.specs.FollowCauses.{IsGiven, IsFollowing, follow_begins, found_at_once, follow_ends, followed, for_mapped}
 use Rattle.barriers.specs.PlainExchangeCauses as at_word
 use Rattle.barriers.specs.PlainExchanges as plainly
 use Rattle.barriers.specs.Reads as reads
@@ -43,50 +46,72 @@ pub record LacksField (spot : Spot) (last : LastStep) (len : ℕ) : Type 0 where
   pub says : len ≡ len_at last.found
   pub past : len ≤ spot.field
 
--- the load of the header
-abbrev pub first_step : Spot → ℕ → LastStep
-first_step spot n = record { earlier = []; step = Load spot.at; found = n }
+-- behind these steps, the load of the header
+abbrev pub header_load : Spot → List Taken → ℕ → LastStep
+header_load spot earlier n = record { earlier = earlier; step = Load spot.at; found = n }
 
-lacks_field : (spot : Spot) (n : ℕ) → nat_lt spot.field (len_at n) ≡ false → LacksField spot (first_step spot n) (len_at n)
-lacks_field spot n e = record { first = refl; header = refl; says = refl; past = ltb-false spot.field (len_at n) e }
+lacks_field : (its spot : Spot) (earlier : List Taken) (n : ℕ) → its ≡ spot → earlier ≡ [] → nat_lt its.field (len_at n) ≡ false → LacksField spot (header_load its earlier n) (len_at n)
+lacks_field its spot earlier n same first e = record {
+  first = first;
+  header = ap (λ (s : Spot). Load s.at) same;
+  says = refl;
+  past = subst (λ (s : Spot). len_at n ≤ s.field) same (ltb-false its.field (len_at n) e);
+}
 
--- a read gives what the load of the field found, and ends without a value only where the header lacks the field
-abbrev pub ReadEndsFor : Spot → LastStep → ReadEnd → Type 0
-ReadEndsFor spot last (read_end.Got held) = (last.step ≡ Load spot.place) × (held ≡ field_at last.found)
-ReadEndsFor spot last (read_end.NoField len) = LacksField spot last len
+-- ---- a read
 
--- the machine is a read of this field, and has loaded the header
-abbrev pub IsPastReadHeader : Spot → ReadMachine → Type 0
-IsPastReadHeader spot (read.Header its) = ⊥
-IsPastReadHeader spot (read.Field its) = its ≡ spot
-IsPastReadHeader spot (read.Ended end) = Unit {0}
+-- the step loaded the field
+abbrev pub LoadsField : Spot → LastStep → Type 0
+LoadsField spot last = last.step ≡ Load spot.place
 
-read_past_header : (spot : Spot) (len : ℕ) (b : Bool) → IsPastReadHeader spot (if b then read.Field spot else read.Ended (read_end.NoField len))
-read_past_header spot len true = refl
-read_past_header spot len false = tt
+-- a read gives what the load of the field found, followed as the phase asks, and ends without a value only where the header lacks the field
+abbrev pub ReadEndsFor : Spot → Phase → LastStep → ReadEnd → Type 0
+ReadEndsFor spot phase last (read_end.Got held) = IsGiven (LoadsField spot) phase last held
+ReadEndsFor spot phase last (read_end.NoField len) = LacksField spot last len
 
-read_stays_past : (spot : Spot) (m : ReadMachine) (n : ℕ) → IsPastReadHeader spot m → IsPastReadHeader spot (reads.fed_of m n)
-read_stays_past spot (read.Header its) n is = absurd is
-read_stays_past spot (read.Field its) n is = tt
-read_stays_past spot (read.Ended end) n is = tt
+-- behind these steps the machine is a read of this field in this phase
+abbrev pub IsReadFor : Spot → Phase → List Taken → ReadMachine → Type 0
+IsReadFor spot phase earlier (read.Header its in_phase) = (its ≡ spot) × (in_phase ≡ phase) × (earlier ≡ [])
+IsReadFor spot phase earlier (read.Field its in_phase) = (its ≡ spot) × (in_phase ≡ phase)
+IsReadFor spot phase earlier (read.Follow its) = IsFollowing (LoadsField spot) phase earlier its
+IsReadFor spot phase earlier (read.NoField len) = Unit {0}
 
-first_read : (spot : Spot) (n : ℕ) (b : Bool) → nat_lt spot.field (len_at n) ≡ b → ForSome (reads.end_of (if b then read.Field spot else read.Ended (read_end.NoField (len_at n)))) (ReadEndsFor spot (first_step spot n))
-first_read spot n true e end is = absurd cc
-first_read spot n false e end is = let same : read_end.NoField (len_at n) ≡ end = cc in subst (ReadEndsFor spot (first_step spot n)) same (lacks_field spot n e)
+read_by_len : (spot its : Spot) (phase its_phase : Phase) (earlier : List Taken) (len : ℕ) (b : Bool) → its ≡ spot → its_phase ≡ phase → IsReadFor spot phase earlier (if b then read.Field its its_phase else read.NoField len)
+read_by_len spot its phase its_phase earlier len true same same_phase = (same, same_phase)
+read_by_len spot its phase its_phase earlier len false same same_phase = tt
 
-later_read : (spot : Spot) (m : ReadMachine) (earlier : List Step) (n : ℕ) → IsPastReadHeader spot m → reads.asks_of m ≢ Ended → ForSome (reads.end_of (reads.fed_of m n)) (ReadEndsFor spot (record { earlier = earlier; step = reads.asks_of m; found = n }))
-later_read spot (read.Header its) earlier n is on = absurd is
-later_read spot (read.Field its) earlier n same on = λ end is.
-    let got : read_end.Got (field_at n) ≡ end = cc in
-    subst (ReadEndsFor spot (record { earlier = earlier; step = Load its.place; found = n })) got (ap (λ (s : Spot). Load s.place) same, refl)
-later_read spot (read.Ended end) earlier n is on = absurd (on refl)
+read_keeps : (spot : Spot) (phase : Phase) (earlier : List Taken) (m : ReadMachine) (n : ℕ) → IsReadFor spot phase earlier m → IsReadFor spot phase (up_to (step_of reads.asks_of earlier m n)) (reads.fed_of m n)
+read_keeps spot phase earlier (read.Header its its_phase) n is = read_by_len spot its phase its_phase _ (len_at n) (nat_lt its.field (len_at n)) is.0 is.1
+read_keeps spot phase earlier (read.Field its its_phase) n is =
+    let look : LastStep = step_of reads.asks_of earlier (read.Field its its_phase) n in
+    let begun = follow_begins (LoadsField spot) look (ap (λ (s : Spot). Load s.place) is.0) phase (field_at n) refl in
+    subst (λ (p : Phase). IsFollowing (LoadsField spot) phase (up_to look) (follows.follow_of p (field_at n))) (sym is.1) begun
+read_keeps spot phase earlier (read.Follow its) n is = follow_ends (LoadsField spot) phase earlier _ its n is
+read_keeps spot phase earlier (read.NoField len) n is = tt
+
+first_read : (spot its : Spot) (phase its_phase : Phase) (earlier : List Taken) (n : ℕ) (b : Bool) → its ≡ spot → earlier ≡ [] → nat_lt its.field (len_at n) ≡ b → ForSome (reads.end_of (if b then read.Field its its_phase else read.NoField (len_at n))) (ReadEndsFor spot phase (header_load its earlier n))
+first_read spot its phase its_phase earlier n true same first e end is = absurd cc
+first_read spot its phase its_phase earlier n false same first e end is =
+    let none : read_end.NoField (len_at n) ≡ end = cc in
+    subst (ReadEndsFor spot phase (header_load its earlier n)) none (lacks_field its spot earlier n same first e)
+
+read_ends : (spot : Spot) (phase : Phase) (earlier : List Taken) (m : ReadMachine) (n : ℕ) → IsReadFor spot phase earlier m → reads.asks_of m ≢ Ended → ForSome (reads.end_of (reads.fed_of m n)) (ReadEndsFor spot phase (step_of reads.asks_of earlier m n))
+read_ends spot phase earlier (read.Header its its_phase) n is on = first_read spot its phase its_phase earlier n (nat_lt its.field (len_at n)) is.0 is.2 refl
+read_ends spot phase earlier (read.Field its its_phase) n is on =
+    let look : LastStep = step_of reads.asks_of earlier (read.Field its its_phase) n in
+    let found = found_at_once (LoadsField spot) look (ap (λ (s : Spot). Load s.place) is.0) phase (field_at n) refl in
+    let given = for_mapped (λ e. read_end.Got e.word) (follows.end_of (follows.follow_of phase (field_at n))) (ReadEndsFor spot phase look) (λ e is. inl (found e is)) in
+    subst (λ (p : Phase). ForSome (reads.end_of (read.Follow (follows.follow_of p (field_at n)))) (ReadEndsFor spot phase look)) (sym is.1) given
+read_ends spot phase earlier (read.Follow its) n is on =
+    let gone = followed (LoadsField spot) phase earlier its n is on in
+    for_mapped (λ e. read_end.Got e.word) (follows.end_of (follows.fed_of its n)) (ReadEndsFor spot phase (step_of follows.asks_of earlier its n)) (λ e is. inr (gone e is))
+read_ends spot phase earlier (read.NoField len) n is on = absurd (on refl)
 
 -- a read of this field ends only so
-pub read_cause_of : (spot : Spot) → EndsOnlyFor reads.asks_of reads.fed_of reads.end_of (ReadEndsFor spot) (read.Header spot)
-read_cause_of spot [] n on = first_read spot n (nat_lt spot.field (len_at n)) refl
-read_cause_of spot (word ∷ rest) n on =
-    let begun = read_past_header spot (len_at word) (nat_lt spot.field (len_at word)) in
-    later_read spot (after reads.fed_of (reads.fed_of (read.Header spot) word) rest) (Load spot.at ∷ taken reads.asks_of reads.fed_of (reads.fed_of (read.Header spot) word) rest) n (kept reads.fed_of (IsPastReadHeader spot) (read_stays_past spot) (reads.fed_of (read.Header spot) word) rest begun) on
+pub read_cause_of : (spot : Spot) (phase : Phase) → EndsOnlyFor reads.asks_of reads.fed_of reads.end_of (ReadEndsFor spot phase) (read.Header spot phase)
+read_cause_of spot phase = ends_only_for reads.asks_of reads.fed_of reads.end_of (ReadEndsFor spot phase) (IsReadFor spot phase) (read_keeps spot phase) (read_ends spot phase) (read.Header spot phase) (refl, refl, refl)
+
+-- ---- a write
 
 -- a write stores its word in the field last, and is refused only where the header lacks the field
 abbrev pub WriteEndsFor : Spot → ℕ → LastStep → WriteEnd → Type 0
@@ -96,47 +121,52 @@ WriteEndsFor spot word last (write_end.Refused refusal.NotLink) = ⊥
 WriteEndsFor spot word last (write_end.Refused (refusal.Raced loaded found)) = ⊥
 WriteEndsFor spot word last (write_end.Refused (refusal.Busy cycle mark)) = ⊥
 
--- the machine is a write of this field with this word, and has loaded the header
-abbrev pub IsPastWriteHeader : Spot → ℕ → WriteMachine → Type 0
-IsPastWriteHeader spot word (write.Header its given) = ⊥
-IsPastWriteHeader spot word (write.Field its given) = (its ≡ spot) × (given ≡ word)
-IsPastWriteHeader spot word (write.Ended end) = Unit {0}
+-- behind these steps the machine is a write of this field with this word
+abbrev pub IsWriteFor : Spot → ℕ → List Taken → WriteMachine → Type 0
+IsWriteFor spot word earlier (write.Header its its_word) = (its ≡ spot) × (its_word ≡ word) × (earlier ≡ [])
+IsWriteFor spot word earlier (write.Field its its_word) = (its ≡ spot) × (its_word ≡ word)
+IsWriteFor spot word earlier (write.Ended end) = Unit {0}
 
-write_past_header : (spot : Spot) (word len : ℕ) (b : Bool) → IsPastWriteHeader spot word (if b then write.Field spot word else write.Ended (write_end.Refused (refusal.NoField len)))
-write_past_header spot word len true = (refl, refl)
-write_past_header spot word len false = tt
+-- a write for want of a field
+abbrev no_write : ℕ → WriteMachine
+no_write len = write.Ended (write_end.Refused (refusal.NoField len))
 
-write_stays_past : (spot : Spot) (word : ℕ) (m : WriteMachine) (n : ℕ) → IsPastWriteHeader spot word m → IsPastWriteHeader spot word (writes.fed_of m n)
-write_stays_past spot word (write.Header its given) n is = absurd is
-write_stays_past spot word (write.Field its given) n is = tt
-write_stays_past spot word (write.Ended end) n is = tt
+write_by_len : (spot its : Spot) (word its_word : ℕ) (earlier : List Taken) (len : ℕ) (b : Bool) → its ≡ spot → its_word ≡ word → IsWriteFor spot word earlier (if b then write.Field its its_word else no_write len)
+write_by_len spot its word its_word earlier len true same same_word = (same, same_word)
+write_by_len spot its word its_word earlier len false same same_word = tt
 
-first_write : (spot : Spot) (word n : ℕ) (b : Bool) → nat_lt spot.field (len_at n) ≡ b → ForSome (writes.end_of (if b then write.Field spot word else write.Ended (write_end.Refused (refusal.NoField (len_at n))))) (WriteEndsFor spot word (first_step spot n))
-first_write spot word n true e end is = absurd cc
-first_write spot word n false e end is = let same : write_end.Refused (refusal.NoField (len_at n)) ≡ end = cc in subst (WriteEndsFor spot word (first_step spot n)) same (lacks_field spot n e)
+write_keeps : (spot : Spot) (word : ℕ) (earlier : List Taken) (m : WriteMachine) (n : ℕ) → IsWriteFor spot word earlier m → IsWriteFor spot word (up_to (step_of writes.asks_of earlier m n)) (writes.fed_of m n)
+write_keeps spot word earlier (write.Header its its_word) n is = write_by_len spot its word its_word _ (len_at n) (nat_lt its.field (len_at n)) is.0 is.1
+write_keeps spot word earlier (write.Field its its_word) n is = tt
+write_keeps spot word earlier (write.Ended end) n is = tt
 
-later_write : (spot : Spot) (word : ℕ) (m : WriteMachine) (earlier : List Step) (n : ℕ) → IsPastWriteHeader spot word m → writes.asks_of m ≢ Ended → ForSome (writes.end_of (writes.fed_of m n)) (WriteEndsFor spot word (record { earlier = earlier; step = writes.asks_of m; found = n }))
-later_write spot word (write.Header its given) earlier n is on = absurd is
-later_write spot word (write.Field its given) earlier n both on = λ end is.
+first_write : (spot its : Spot) (word its_word : ℕ) (earlier : List Taken) (n : ℕ) (b : Bool) → its ≡ spot → earlier ≡ [] → nat_lt its.field (len_at n) ≡ b → ForSome (writes.end_of (if b then write.Field its its_word else no_write (len_at n))) (WriteEndsFor spot word (header_load its earlier n))
+first_write spot its word its_word earlier n true same first e end is = absurd cc
+first_write spot its word its_word earlier n false same first e end is =
+    let none : write_end.Refused (refusal.NoField (len_at n)) ≡ end = cc in
+    subst (WriteEndsFor spot word (header_load its earlier n)) none (lacks_field its spot earlier n same first e)
+
+write_ends : (spot : Spot) (word : ℕ) (earlier : List Taken) (m : WriteMachine) (n : ℕ) → IsWriteFor spot word earlier m → writes.asks_of m ≢ Ended → ForSome (writes.end_of (writes.fed_of m n)) (WriteEndsFor spot word (step_of writes.asks_of earlier m n))
+write_ends spot word earlier (write.Header its its_word) n is on = first_write spot its word its_word earlier n (nat_lt its.field (len_at n)) is.0 is.2 refl
+write_ends spot word earlier (write.Field its its_word) n is on = λ end ends.
     let wrote : write_end.Wrote ≡ end = cc in
-    let place : its.place ≡ spot.place = ap (λ (s : Spot). s.place) both.0 in
-    let step : Store its.place given ≡ Store spot.place word = cc (place, both.1) in
-    subst (WriteEndsFor spot word (record { earlier = earlier; step = Store its.place given; found = n })) wrote step
-later_write spot word (write.Ended end) earlier n is on = absurd (on refl)
+    let place : its.place ≡ spot.place = ap (λ (s : Spot). s.place) is.0 in
+    let step : Store its.place its_word ≡ Store spot.place word = cc (place, is.1) in
+    subst (WriteEndsFor spot word (step_of writes.asks_of earlier (write.Field its its_word) n)) wrote step
+write_ends spot word earlier (write.Ended end) n is on = absurd (on refl)
 
 -- a write of this field ends only so
 pub write_cause_of : (spot : Spot) (word : ℕ) → EndsOnlyFor writes.asks_of writes.fed_of writes.end_of (WriteEndsFor spot word) (write.Header spot word)
-write_cause_of spot word [] n on = first_write spot word n (nat_lt spot.field (len_at n)) refl
-write_cause_of spot word (header ∷ rest) n on =
-    let begun = write_past_header spot word (len_at header) (nat_lt spot.field (len_at header)) in
-    later_write spot word (after writes.fed_of (writes.fed_of (write.Header spot word) header) rest) (Load spot.at ∷ taken writes.asks_of writes.fed_of (writes.fed_of (write.Header spot word) header) rest) n (kept writes.fed_of (IsPastWriteHeader spot word) (write_stays_past spot word) (writes.fed_of (write.Header spot word) header) rest begun) on
+write_cause_of spot word = ends_only_for writes.asks_of writes.fed_of writes.end_of (WriteEndsFor spot word) (IsWriteFor spot word) (write_keeps spot word) (write_ends spot word) (write.Header spot word) (refl, refl, refl)
+
+-- ---- an exchange
 
 -- the exchange of this field's word
 abbrev pub swap_at : Spot → FieldWord → ℕ → Swap
 swap_at spot expected word = record { place = spot.place; expected = expected; word = word }
 
 -- without the first
-abbrev pub behind_first : List Step → List Step
+abbrev pub behind_first : List Taken → List Taken
 behind_first [] = []
 behind_first (first ∷ rest) = rest
 
@@ -144,54 +174,116 @@ behind_first (first ∷ rest) = rest
 abbrev pub behind_header : LastStep → LastStep
 behind_header last = record last { earlier = behind_first last.earlier }
 
--- an exchange of this field is refused where the header lacks the field, and otherwise ends as that of the field's word does
-abbrev pub ExchangeEndsFor : Spot → FieldWord → ℕ → LastStep → ExchangeEnd → Type 0
-ExchangeEndsFor spot expected word last (exchange_end.Refused (refusal.NoField len)) = LacksField spot last len
-ExchangeEndsFor spot expected word last end = at_word.EndsFor (swap_at spot expected word) (behind_header last) end
+-- An exchange of this field is refused where the header lacks the field. What differs was found in the field by a load or a lost exchange of its
+-- word, has another value than the expected one, and is followed as the phase asks. All other ends are those of the exchange of the field's word.
+abbrev pub ExchangeEndsFor : Spot → Phase → FieldWord → ℕ → LastStep → ExchangeEnd → Type 0
+ExchangeEndsFor spot phase expected word last (exchange_end.Refused (refusal.NoField len)) = LacksField spot last len
+ExchangeEndsFor spot phase expected word last (exchange_end.Differs held) = IsGiven (at_word.FindsOther (swap_at spot expected word)) phase last held
+ExchangeEndsFor spot phase expected word last end = at_word.EndsFor (swap_at spot expected word) (behind_header last) end
 
-at_word_for : (spot : Spot) (expected : FieldWord) (word : ℕ) (last : LastStep) (end : ExchangeEnd) → at_word.EndsFor (swap_at spot expected word) (behind_header last) end → ExchangeEndsFor spot expected word last end
-at_word_for spot expected word last exchange_end.Done is = is
-at_word_for spot expected word last (exchange_end.Differs held) is = is
-at_word_for spot expected word last (exchange_end.Refused refusal.NotLink) is = is
-at_word_for spot expected word last (exchange_end.Refused (refusal.NoField len)) is = absurd is
-at_word_for spot expected word last (exchange_end.Refused (refusal.Raced loaded found)) is = is
-at_word_for spot expected word last (exchange_end.Refused (refusal.Busy cycle mark)) is = is
+-- the step, counted from the load of the header
+abbrev pub from_header : Taken → LastStep → LastStep
+from_header header later = record later { earlier = header ∷ later.earlier }
 
-first_exchange : (spot : Spot) (expected : FieldWord) (word n : ℕ) (b : Bool) → nat_lt spot.field (len_at n) ≡ b → ForSome (exchanges.end_of (if b then exchange.Field spot (plain.Load (swap_at spot expected word)) else exchange.NoField (len_at n))) (ExchangeEndsFor spot expected word (first_step spot n))
-first_exchange spot expected word n true e end is = absurd cc
-first_exchange spot expected word n false e end is = let same : exchange_end.Refused (refusal.NoField (len_at n)) ≡ end = cc in subst (ExchangeEndsFor spot expected word (first_step spot n)) same (lacks_field spot n e)
+-- behind the load of the header this exchange of a word goes on
+pub record IsAtWord (swap : Swap) (earlier : List Taken) (its : PlainExchange) : Type 0 where
+  pub header : Taken
+  pub rest : List Taken
+  pub begins : earlier ≡ header ∷ rest
+  pub same : at_word.IsFor swap rest its
+  pub goes_on : plainly.asks_of its ≢ Ended
 
--- the exchange of the word goes on inside it
-after_field : (spot : Spot) (its : PlainExchange) (found : List ℕ) → exchange.Field spot (after plainly.fed_of its found) ≡ after exchanges.fed_of (exchange.Field spot its) found
-after_field spot its [] = refl
-after_field spot its (word ∷ rest) = after_field spot (plainly.fed_of its word) rest
+-- behind these steps the machine is an exchange of this field in this phase
+abbrev pub IsExchangeFor : Spot → Phase → FieldWord → ℕ → List Taken → ExchangeMachine → Type 0
+IsExchangeFor spot phase expected word earlier (exchange.Header its its_phase its_expected its_word) =
+    (its ≡ spot) × (its_phase ≡ phase) × (its_expected ≡ expected) × (its_word ≡ word) × (earlier ≡ [])
+IsExchangeFor spot phase expected word earlier (exchange.Field its its_phase its_exchange) = (its_phase ≡ phase) × IsAtWord (swap_at spot expected word) earlier its_exchange
+IsExchangeFor spot phase expected word earlier (exchange.Follow its) = IsFollowing (at_word.FindsOther (swap_at spot expected word)) phase earlier its
+IsExchangeFor spot phase expected word earlier (exchange.Ended end) = Unit {0}
 
-taken_field : (spot : Spot) (its : PlainExchange) (found : List ℕ) → taken plainly.asks_of plainly.fed_of its found ≡ taken exchanges.asks_of exchanges.fed_of (exchange.Field spot its) found
-taken_field spot its [] = refl
-taken_field spot its (word ∷ rest) = ap (λ (steps : List Step). plainly.asks_of its ∷ steps) (taken_field spot (plainly.fed_of its word) rest)
+-- the exchange of a field's word
+module _ (spot : Spot) (phase : Phase) (expected : FieldWord) (word : ℕ) where
+  abbrev swap : Swap
+  swap = swap_at spot expected word
 
-after_none : (len : ℕ) (found : List ℕ) → exchanges.asks_of (after exchanges.fed_of (exchange.NoField len) found) ≡ Ended
-after_none len [] = refl
-after_none len (word ∷ rest) = after_none len rest
+  abbrev Is : List Taken → ExchangeMachine → Type 0
+  Is = IsExchangeFor spot phase expected word
 
--- behind these steps, with this word, a machine that has not ended ends for a cause
-abbrev pub EndsNext : Spot → FieldWord → ℕ → ℕ → List Step → ExchangeMachine → Type 0
-EndsNext spot expected word n earlier m = exchanges.asks_of m ≢ Ended → ForSome (exchanges.end_of (exchanges.fed_of m n)) (ExchangeEndsFor spot expected word (record { earlier = earlier; step = exchanges.asks_of m; found = n }))
+  abbrev Ends : LastStep → ExchangeEnd → Type 0
+  Ends = ExchangeEndsFor spot phase expected word
 
-later_field : (spot : Spot) (expected : FieldWord) (word : ℕ) (rest : List ℕ) (n : ℕ) → EndsNext spot expected word n (Load spot.at ∷ taken plainly.asks_of plainly.fed_of (plain.Load (swap_at spot expected word)) rest) (exchange.Field spot (after plainly.fed_of (plain.Load (swap_at spot expected word)) rest))
-later_field spot expected word rest n on end is =
-    let swap : Swap = swap_at spot expected word in
-    let its : PlainExchange = after plainly.fed_of (plain.Load swap) rest in
-    at_word_for spot expected word (record { earlier = Load spot.at ∷ taken plainly.asks_of plainly.fed_of (plain.Load swap) rest; step = plainly.asks_of its; found = n }) end (at_word.cause_of swap rest n on end is)
+  exchange_by_len : (its : Spot) (its_phase : Phase) (its_swap : Swap) (header : Taken) (len : ℕ) (b : Bool) → its_phase ≡ phase → its_swap ≡ swap → Is (header ∷ []) (if b then exchange.Field its its_phase (plain.Load its_swap) else exchanges.lacking len)
+  exchange_by_len its its_phase its_swap header len true same_phase same = (same_phase, record { header = header; rest = []; begins = refl; same = (same, refl); goes_on = λ ended. absurd cc })
+  exchange_by_len its its_phase its_swap header len false same_phase same = tt
 
-later_exchange : (spot : Spot) (expected : FieldWord) (word len : ℕ) (rest : List ℕ) (n : ℕ) (b : Bool) → let begun : ExchangeMachine = (if b then exchange.Field spot (plain.Load (swap_at spot expected word)) else exchange.NoField len) in EndsNext spot expected word n (Load spot.at ∷ taken exchanges.asks_of exchanges.fed_of begun rest) (after exchanges.fed_of begun rest)
-later_exchange spot expected word len rest n true =
-    let its : PlainExchange = plain.Load (swap_at spot expected word) in
-    let same : EndsNext spot expected word n (Load spot.at ∷ taken plainly.asks_of plainly.fed_of its rest) (after exchanges.fed_of (exchange.Field spot its) rest) = subst (EndsNext spot expected word n (Load spot.at ∷ taken plainly.asks_of plainly.fed_of its rest)) (after_field spot its rest) (later_field spot expected word rest n) in
-    subst (λ (steps : List Step). EndsNext spot expected word n (Load spot.at ∷ steps) (after exchanges.fed_of (exchange.Field spot its) rest)) (taken_field spot its rest) same
-later_exchange spot expected word len rest n false = λ on. absurd (on (after_none len rest))
+  first_exchange : (its : Spot) (its_phase : Phase) (its_swap : Swap) (earlier : List Taken) (n : ℕ) (b : Bool) → its ≡ spot → earlier ≡ [] → nat_lt its.field (len_at n) ≡ b → ForSome (exchanges.end_of (if b then exchange.Field its its_phase (plain.Load its_swap) else exchanges.lacking (len_at n))) (Ends (header_load its earlier n))
+  first_exchange its its_phase its_swap earlier n true same first e end is = absurd cc
+  first_exchange its its_phase its_swap earlier n false same first e end is =
+      let none : exchange_end.Refused (refusal.NoField (len_at n)) ≡ end = cc in
+      subst (Ends (header_load its earlier n)) none (lacks_field its spot earlier n same first e)
 
--- an exchange of this field ends only so
-pub exchange_cause_of : (spot : Spot) (expected : FieldWord) (word : ℕ) → EndsOnlyFor exchanges.asks_of exchanges.fed_of exchanges.end_of (ExchangeEndsFor spot expected word) (exchange.Header spot expected word)
-exchange_cause_of spot expected word [] n on = first_exchange spot expected word n (nat_lt spot.field (len_at n)) refl
-exchange_cause_of spot expected word (header ∷ rest) n on = later_exchange spot expected word (len_at header) rest n (nat_lt spot.field (len_at header)) on
+  for_refused : (header : Taken) (later : LastStep) (why : TryRefusal) → at_word.EndsFor swap later (exchange_end.Refused why) → Ends (from_header header later) (exchange_end.Refused why)
+  for_refused header later refusal.NotLink for = for
+  for_refused header later (refusal.NoField len) for = absurd for
+  for_refused header later (refusal.Raced loaded found) for = for
+  for_refused header later (refusal.Busy cycle mark) for = for
+
+  -- as a step of the exchange of the word leaves it
+  word_keeps : (header : Taken) (later : LastStep) (its : Spot) (next : PlainExchange) → at_word.IsFor swap (up_to later) next → ForSome (plainly.end_of next) (at_word.EndsFor swap later) → Is (up_to (from_header header later)) (exchanges.exchanged its phase next)
+  word_keeps header later its (plain.Load given) for ends = (refl, record { header = header; rest = up_to later; begins = refl; same = for; goes_on = λ ended. absurd cc })
+  word_keeps header later its (plain.Try given wanted tries) for ends = (refl, record { header = header; rest = up_to later; begins = refl; same = for; goes_on = λ ended. absurd cc })
+  word_keeps header later its (plain.Ended exchange_end.Done) for ends = tt
+  word_keeps header later its (plain.Ended (exchange_end.Differs held)) for ends =
+      let differs = ends (exchange_end.Differs held) refl in
+      follow_begins (at_word.FindsOther swap) (from_header header later) differs.1 phase held differs.0
+  word_keeps header later its (plain.Ended (exchange_end.Refused why)) for ends = tt
+
+  word_ends : (header : Taken) (later : LastStep) (its : Spot) (next : PlainExchange) → ForSome (plainly.end_of next) (at_word.EndsFor swap later) → ForSome (exchanges.end_of (exchanges.exchanged its phase next)) (Ends (from_header header later))
+  word_ends header later its (plain.Load given) ends = λ end is. absurd cc
+  word_ends header later its (plain.Try given wanted tries) ends = λ end is. absurd cc
+  word_ends header later its (plain.Ended exchange_end.Done) ends = λ end is.
+      let done : exchange_end.Done ≡ end = cc in
+      subst (Ends (from_header header later)) done (ends exchange_end.Done refl)
+  word_ends header later its (plain.Ended (exchange_end.Differs held)) ends =
+      let differs = ends (exchange_end.Differs held) refl in
+      let found = found_at_once (at_word.FindsOther swap) (from_header header later) differs.1 phase held differs.0 in
+      for_mapped (λ e. exchange_end.Differs e.word) (follows.end_of (follows.follow_of phase held)) (Ends (from_header header later)) (λ e is. inl (found e is))
+  word_ends header later its (plain.Ended (exchange_end.Refused why)) ends = λ end is.
+      let refused : exchange_end.Refused why ≡ end = cc in
+      subst (Ends (from_header header later)) refused (for_refused header later why (ends (exchange_end.Refused why) refl))
+
+  exchange_keeps : (earlier : List Taken) (m : ExchangeMachine) (n : ℕ) → Is earlier m → Is (up_to (step_of exchanges.asks_of earlier m n)) (exchanges.fed_of m n)
+  exchange_keeps earlier (exchange.Header its its_phase its_expected its_word) n is =
+      let place : its.place ≡ spot.place = ap (λ (s : Spot). s.place) is.0 in
+      let same : swap_at its its_expected its_word ≡ swap = cc (place, is.2, is.3) in
+      let header : Taken = record { step = Load its.at; found = n } in
+      let begun = exchange_by_len its its_phase (swap_at its its_expected its_word) header (len_at n) (nat_lt its.field (len_at n)) is.1 same in
+      subst (λ (s : List Taken). Is (s ++ header ∷ []) (exchanges.by_len its its_phase its_expected its_word (len_at n))) (sym is.4) begun
+  exchange_keeps earlier (exchange.Field its its_phase plainly_so) n is =
+      let here = is.1 in
+      let later : LastStep = step_of plainly.asks_of here.rest plainly_so n in
+      let next : PlainExchange = plainly.fed_of plainly_so n in
+      let kept = word_keeps here.header later its next (at_word.IsFor-fed_of swap here.rest plainly_so n here.same) (at_word.end_for swap here.rest plainly_so n here.same here.goes_on) in
+      let in_phase = subst (λ (p : Phase). Is (up_to (from_header here.header later)) (exchanges.exchanged its p next)) (sym is.0) kept in
+      subst (λ (s : List Taken). Is (up_to (step_of plainly.asks_of s plainly_so n)) (exchanges.exchanged its its_phase next)) (sym here.begins) in_phase
+  exchange_keeps earlier (exchange.Follow its) n is = follow_ends (at_word.FindsOther swap) phase earlier _ its n is
+  exchange_keeps earlier (exchange.Ended end) n is = tt
+
+  exchange_ends : (earlier : List Taken) (m : ExchangeMachine) (n : ℕ) → Is earlier m → exchanges.asks_of m ≢ Ended → ForSome (exchanges.end_of (exchanges.fed_of m n)) (Ends (step_of exchanges.asks_of earlier m n))
+  exchange_ends earlier (exchange.Header its its_phase its_expected its_word) n is on =
+      first_exchange its its_phase (swap_at its its_expected its_word) earlier n (nat_lt its.field (len_at n)) is.0 is.4 refl
+  exchange_ends earlier (exchange.Field its its_phase plainly_so) n is on =
+      let here = is.1 in
+      let later : LastStep = step_of plainly.asks_of here.rest plainly_so n in
+      let next : PlainExchange = plainly.fed_of plainly_so n in
+      let ends = word_ends here.header later its next (at_word.end_for swap here.rest plainly_so n here.same on) in
+      let in_phase = subst (λ (p : Phase). ForSome (exchanges.end_of (exchanges.exchanged its p next)) (Ends (from_header here.header later))) (sym is.0) ends in
+      subst (λ (s : List Taken). ForSome (exchanges.end_of (exchanges.exchanged its its_phase next)) (Ends (step_of plainly.asks_of s plainly_so n))) (sym here.begins) in_phase
+  exchange_ends earlier (exchange.Follow its) n is on =
+      let gone = followed (at_word.FindsOther swap) phase earlier its n is on in
+      for_mapped (λ e. exchange_end.Differs e.word) (follows.end_of (follows.fed_of its n)) (Ends (step_of follows.asks_of earlier its n)) (λ e is. inr (gone e is))
+  exchange_ends earlier (exchange.Ended end) n is on = absurd (on refl)
+
+  -- an exchange of this field ends only so
+  pub exchange_cause_of : EndsOnlyFor exchanges.asks_of exchanges.fed_of exchanges.end_of Ends (exchange.Header spot phase expected word)
+  exchange_cause_of = ends_only_for exchanges.asks_of exchanges.fed_of exchanges.end_of Ends Is exchange_keeps exchange_ends (exchange.Header spot phase expected word) (refl, refl, refl, refl, refl)

@@ -1,17 +1,18 @@
 -- What the ends of calls say of the field.
 use Rattle.std.specs.Prelude.{Bool, true, false, Option, Some, None}
-use Rattle.heap_words.specs.declared.field_word.FieldWord.{FieldWord}
+use Rattle.heap_history.specs.declared.call.Value.{Value}
 use Rattle.barriers.specs.declared.ends.ReadEnd.{ReadEnd}
 use Rattle.barriers.specs.declared.ends.ReadEnd.TheVariants.{Got, NoField}
 use Rattle.barriers.specs.declared.ends.WriteEnd.{WriteEnd}
 use Rattle.barriers.specs.declared.ends.WriteEnd.TheVariants as write
 use Rattle.barriers.specs.declared.ends.ExchangeEnd.{ExchangeEnd}
 use Rattle.barriers.specs.declared.ends.ExchangeEnd.TheVariants as exchange
+use Rattle.barriers.specs.Values.{value_of}
 
--- what a read has seen
-abbrev pub seen_by_read : Option ReadEnd → Option FieldWord
+-- the value that a read tells
+abbrev pub seen_by_read : Option ReadEnd → Option Value
 seen_by_read None = None
-seen_by_read (Some (Got held)) = Some held
+seen_by_read (Some (Got held)) = Some (value_of held)
 seen_by_read (Some (NoField len)) = None
 
 -- whether a write has written
@@ -27,9 +28,9 @@ has_exchanged (Some exchange.Done) = true
 has_exchanged (Some (exchange.Differs held)) = false
 has_exchanged (Some (exchange.Refused why)) = false
 
--- what an exchange has seen in place of the expected value
-abbrev pub seen_by_exchange : Option ExchangeEnd → Option FieldWord
+-- the value that an exchange tells in place of the expected one
+abbrev pub seen_by_exchange : Option ExchangeEnd → Option Value
 seen_by_exchange None = None
 seen_by_exchange (Some exchange.Done) = None
-seen_by_exchange (Some (exchange.Differs held)) = Some held
+seen_by_exchange (Some (exchange.Differs held)) = Some (value_of held)
 seen_by_exchange (Some (exchange.Refused why)) = None

@@ -3,6 +3,8 @@ pub mod Ending
 pub mod Ends
 pub mod ExchangeMeanings
 pub mod Exchanges
+pub mod FollowCauses
+pub mod FollowMeanings
 pub mod Meanings
 pub mod NewObjectCauses
 pub mod NewObjects

@@ -3,7 +3,7 @@ use Rattle.std.specs.Prelude.{◌≡◌, ◌≢◌, ℕ, Bool, true, false, Opti
 use Rattle.call_steps.specs.declared.step.Step.{Step}
 use Rattle.call_steps.specs.declared.step.Step.TheVariants.{Ended}
 use Rattle.call_steps.specs.Steps.{put_by}
-use Rattle.heap_words.specs.declared.field_word.FieldWord.{FieldWord}
+use Rattle.heap_history.specs.declared.call.Value.{Value}
 
 pub record Meaning (M : Type 0) : Type 0 where
   -- the birth number and the address of the link that it holds
@@ -12,12 +12,12 @@ pub record Meaning (M : Type 0) : Type 0 where
   pub writes : M → Option ℕ
   -- whether its step, where it finds this word, is the call's change
   pub decides : M → ℕ → Bool
-  -- what the call sees in the field by its step, where this finds this word
-  pub looks : M → ℕ → Option FieldWord
+  -- the value that the call sees in the field by its step, where this finds this word
+  pub looks : M → ℕ → Option Value
   -- whether it has ended with its change
   pub changed : M → Bool
-  -- what it has ended with as seen in the field
-  pub saw : M → Option FieldWord
+  -- the value that it has seen in the field
+  pub saw : M → Option Value
 
 -- a machine that has ended holds and will do nothing more
 pub record IsOver {M : Type 0} (meaning : Meaning M) (m : M) : Type 0 where
@@ -30,12 +30,15 @@ pub record IsOver {M : Type 0} (meaning : Meaning M) (m : M) : Type 0 where
 pub record Means {M : Type 0} (asks : M → Step) (fed : M → ℕ → M) (meaning : Meaning M) (m : M) (n : ℕ) : Type 0 where
   -- the call has ended with its change exactly where this step is it
   pub decided : meaning.changed (fed m n) ≡ meaning.decides m n
-  -- it has ended with a value seen exactly where this step sees it
-  pub looked : meaning.saw (fed m n) ≡ meaning.looks m n
+  -- it has a value seen exactly where this step sees it, or it had seen it before
+  pub looked : meaning.saw m ≡ None → meaning.saw (fed m n) ≡ meaning.looks m n
+  pub keeps : (v : Value) → meaning.saw m ≡ Some v → meaning.saw (fed m n) ≡ Some v
+  -- and it sees one value at most
+  pub looks_once : (v : Value) → meaning.saw m ≡ Some v → meaning.looks m n ≡ None
   -- the change puts the word that the machine was to write
   pub puts : meaning.decides m n ≡ true → meaning.writes m ≡ Some (put_by (asks m) n)
   -- every other step leaves the word
   pub leaves : meaning.decides m n ≡ false → put_by (asks m) n ≡ n
-  -- where it goes on it is about the same link and the same word
-  pub link_stays : asks (fed m n) ≢ Ended → meaning.link (fed m n) ≡ meaning.link m
-  pub word_stays : asks (fed m n) ≢ Ended → meaning.writes (fed m n) ≡ meaning.writes m
+  -- where it goes on and has not seen the value it is about the same link and the same word
+  pub link_stays : asks (fed m n) ≢ Ended → meaning.saw (fed m n) ≡ None → meaning.link (fed m n) ≡ meaning.link m
+  pub word_stays : asks (fed m n) ≢ Ended → meaning.saw (fed m n) ≡ None → meaning.writes (fed m n) ≡ meaning.writes m

@@ -1,5 +1,5 @@
 -- The exchange at one word.
-use Rattle.std.specs.Prelude.{◌≡◌, ◌≢◌, ℕ, ◌<◌, ◌==◌, if◌then◌else◌, Bool, true, false, Option, Some, None, refl}
+use Rattle.std.specs.Prelude.{◌≡◌, ◌≢◌, ℕ, ◌<◌, ◌==◌, if◌then◌else◌, Bool, true, false, not, ◌&&◌, Option, Some, None, refl}
 use Rattle.std.proofs.Common.{lit<, arith}
 use Rattle.call_steps.specs.declared.step.Step.{Step}
 use Rattle.call_steps.specs.declared.step.Step.TheVariants.{Load, Store, Exchange, Ended}
@@ -65,6 +65,12 @@ left_of (plain.Load swap) = 4
 left_of (plain.Try swap wanted tries) = exchanges_left tries
 left_of (plain.Ended end) = 0
 
+-- whether its step, where it finds this word, finds another value than the expected one and wins no exchange
+abbrev pub sees : PlainExchange → ℕ → Bool
+sees (plain.Load swap) found = not (is_expected swap found)
+sees (plain.Try swap wanted tries) found = not (found == wanted) && not (is_expected swap found)
+sees (plain.Ended end) found = false
+
 pub blind_of : (m : PlainExchange) (at put n : ℕ) → asks_of m ≡ Store at put → fed_of m n ≡ fed_of m 0
 blind_of (plain.Load swap) at put n e = absurd cc
 blind_of (plain.Try swap wanted tries) at put n e = absurd cc
@@ -75,7 +81,7 @@ none_left_of (plain.Load swap) e = absurd cc
 none_left_of (plain.Try swap wanted tries) e = absurd cc
 none_left_of (plain.Ended end) e = refl
 
-some_exchange_left : (tries : TriesLeft) → 0 < exchanges_left tries
+pub some_exchange_left : (tries : TriesLeft) → 0 < exchanges_left tries
 some_exchange_left Two = lit< tt
 some_exchange_left One = lit< tt
 some_exchange_left Zero = lit< tt

@@ -1,10 +1,12 @@
 -- A read of a field.
-use Rattle.std.specs.Prelude.{◌≡◌, ◌≢◌, ℕ, ◌<◌, nat_lt, if◌then◌else◌, Bool, true, false, Option, Some, None, refl}
-use Rattle.std.proofs.Common.{lit<, arith}
+use Rattle.std.specs.Prelude.{◌≡◌, ◌≢◌, ℕ, ◌<◌, nat_lt, if◌then◌else◌, Bool, true, false, Option, Some, None, option_map, refl}
+use Rattle.std.proofs.Common.{lit<, arith, ap}
 use Rattle.call_steps.specs.declared.step.Step.{Step}
 use Rattle.call_steps.specs.declared.step.Step.TheVariants.{Load, Store, Ended}
 use Rattle.heap_words.specs.FieldWords.{field_at}
 use Rattle.object_headers.specs.Headers.{header_at}
+use Rattle.handshakes.specs.declared.phase_word.Phase.{Phase}
+use Rattle.handshakes.specs.Follows as follows
 use Rattle.barriers.specs.declared.spot.Spot.{Spot}
 use Rattle.barriers.specs.declared.ends.ReadEnd.{ReadEnd}
 use Rattle.barriers.specs.declared.ends.ReadEnd.TheVariants.{Got, NoField}
@@ -13,52 +15,67 @@ use Rattle.barriers.specs.declared.read.ReadMachine.TheVariants as read
 
 -- the step that it takes next
 abbrev pub asks_of : ReadMachine → Step
-asks_of (read.Header spot) = Load spot.at
-asks_of (read.Field spot) = Load spot.place
-asks_of (read.Ended end) = Ended
+asks_of (read.Header spot phase) = Load spot.at
+asks_of (read.Field spot phase) = Load spot.place
+asks_of (read.Follow its) = follows.asks_of its
+asks_of (read.NoField len) = Ended
 
 -- with the header's len at hand
-abbrev pub by_len : Spot → ℕ → ReadMachine
-by_len spot len = if nat_lt spot.field len then read.Field spot else read.Ended (NoField len)
+abbrev pub by_len : Spot → Phase → ℕ → ReadMachine
+by_len spot phase len = if nat_lt spot.field len then read.Field spot phase else read.NoField len
 
--- what it is after it was fed a word
+-- what it is after it was fed a word: what the field held is followed as the phase asks
 abbrev pub fed_of : ReadMachine → ℕ → ReadMachine
-fed_of (read.Header spot) found = let header = header_at found in by_len spot header.len
-fed_of (read.Field spot) found = read.Ended (Got (field_at found))
-fed_of (read.Ended end) found = read.Ended end
+fed_of (read.Header spot phase) found = let header = header_at found in by_len spot phase header.len
+fed_of (read.Field spot phase) found = read.Follow (follows.follow_of phase (field_at found))
+fed_of (read.Follow its) found = read.Follow (follows.fed_of its found)
+fed_of (read.NoField len) found = read.NoField len
 
 -- what it ended with
 abbrev pub end_of : ReadMachine → Option ReadEnd
-end_of (read.Header spot) = None
-end_of (read.Field spot) = None
-end_of (read.Ended end) = Some end
+end_of (read.Header spot phase) = None
+end_of (read.Field spot phase) = None
+end_of (read.Follow its) = option_map (λ e. Got e.word) (follows.end_of its)
+end_of (read.NoField len) = Some (NoField len)
 
--- how many steps are left at most
+-- how many steps are left at most: the header, the field, and 4 to follow
 abbrev pub left_of : ReadMachine → ℕ
-left_of (read.Header spot) = 2
-left_of (read.Field spot) = 1
-left_of (read.Ended end) = 0
+left_of (read.Header spot phase) = 6
+left_of (read.Field spot phase) = 5
+left_of (read.Follow its) = follows.left_of its
+left_of (read.NoField len) = 0
+
+-- whether its step sees the field's value
+abbrev pub sees : ReadMachine → ℕ → Bool
+sees (read.Header spot phase) found = false
+sees (read.Field spot phase) found = true
+sees (read.Follow its) found = false
+sees (read.NoField len) found = false
 
 pub blind_of : (m : ReadMachine) (at put n : ℕ) → asks_of m ≡ Store at put → fed_of m n ≡ fed_of m 0
-blind_of (read.Header spot) at put n e = absurd cc
-blind_of (read.Field spot) at put n e = absurd cc
-blind_of (read.Ended end) at put n e = refl
+blind_of (read.Header spot phase) at put n e = absurd cc
+blind_of (read.Field spot phase) at put n e = absurd cc
+blind_of (read.Follow its) at put n e = ap (λ f. read.Follow f) (follows.blind_of its at put n e)
+blind_of (read.NoField len) at put n e = refl
 
 pub none_left_of : (m : ReadMachine) → asks_of m ≡ Ended → left_of m ≡ 0
-none_left_of (read.Header spot) e = absurd cc
-none_left_of (read.Field spot) e = absurd cc
-none_left_of (read.Ended end) e = refl
+none_left_of (read.Header spot phase) e = absurd cc
+none_left_of (read.Field spot phase) e = absurd cc
+none_left_of (read.Follow its) e = follows.none_left_of its e
+none_left_of (read.NoField len) e = refl
 
 pub some_left_of : (m : ReadMachine) → left_of m ≡ 0 → asks_of m ≡ Ended
-some_left_of (read.Header spot) e = absurd (omega arith)
-some_left_of (read.Field spot) e = absurd (omega arith)
-some_left_of (read.Ended end) e = refl
+some_left_of (read.Header spot phase) e = absurd (omega arith)
+some_left_of (read.Field spot phase) e = absurd (omega arith)
+some_left_of (read.Follow its) e = follows.some_left_of its e
+some_left_of (read.NoField len) e = refl
 
-by_len_falls : (spot : Spot) (len : ℕ) (b : Bool) → left_of (if b then read.Field spot else read.Ended (NoField len)) < 2
-by_len_falls spot len true = lit< tt
-by_len_falls spot len false = lit< tt
+by_len_falls : (spot : Spot) (phase : Phase) (len : ℕ) (b : Bool) → left_of (if b then read.Field spot phase else read.NoField len) < 6
+by_len_falls spot phase len true = lit< tt
+by_len_falls spot phase len false = lit< tt
 
 pub falls_of : (m : ReadMachine) (n : ℕ) → asks_of m ≢ Ended → left_of (fed_of m n) < left_of m
-falls_of (read.Header spot) n on = let header = header_at n in by_len_falls spot header.len (nat_lt spot.field header.len)
-falls_of (read.Field spot) n on = lit< tt
-falls_of (read.Ended end) n on = absurd (on refl)
+falls_of (read.Header spot phase) n on = let header = header_at n in by_len_falls spot phase header.len (nat_lt spot.field header.len)
+falls_of (read.Field spot phase) n on = omega (arith, follows.follow_of-left phase (field_at n))
+falls_of (read.Follow its) n on = follows.falls_of its n on
+falls_of (read.NoField len) n on = absurd (on refl)

@@ -59,6 +59,24 @@ pub means : (m : WriteMachine) (n : ℕ) → asks_of m ≢ Ended → Means asks_
 means (write.Header spot word) n on =
     let header = header_at n in
     let after = after_header spot word header.len n (nat_lt spot.field header.len) in
-    record { decided = after.unchanged; looked = refl; puts = λ e. absurd cc; leaves = λ e. refl; link_stays = after.link; word_stays = after.word_stays }
-means (write.Field spot word) n on = record { decided = refl; looked = refl; puts = λ e. refl; leaves = λ e. absurd cc; link_stays = λ more. absurd (more refl); word_stays = λ more. absurd (more refl) }
+    record {
+      decided = after.unchanged;
+      looked = λ unseen. refl;
+      keeps = λ v seen. seen;
+      looks_once = λ v seen. refl;
+      puts = λ e. absurd cc;
+      leaves = λ e. refl;
+      link_stays = λ more unseen. after.link more;
+      word_stays = λ more unseen. after.word_stays more;
+    }
+means (write.Field spot word) n on = record {
+  decided = refl;
+  looked = λ unseen. refl;
+  keeps = λ v seen. seen;
+  looks_once = λ v seen. refl;
+  puts = λ e. refl;
+  leaves = λ e. absurd cc;
+  link_stays = λ more unseen. absurd (more refl);
+  word_stays = λ more unseen. absurd (more refl);
+}
 means (write.Ended end) n on = absurd (on refl)

@@ -6,7 +6,7 @@ ghost use Rattle.barriers.specs.declared.plain_exchange.PlainExchange.TheVariant
 ghost use Rattle.barriers.specs.PlainExchanges.{asks_of, fed_of, end_of, exchanges_left};
 ghost use Rattle.barriers.specs.Ending.{EndsOnlyFor};
 ghost use Rattle.barriers.specs.PlainExchangeCauses.{EndsFor};
-ghost use Rattle.barriers.specs.PlainExchanges.{compared as compared_by, lost as lost_by, again as again_by};
+ghost use Rattle.barriers.specs.PlainExchanges.{compared as compared_by, lost as lost_by, again as again_by, sees as sees_by};
 
 use crate::ends::{ExchangeEnd, TryRefusal};
 use crate::heap_call::HeapCall;
@@ -69,9 +69,9 @@ impl PlainExchange {
 
         // Whatever others do: it is done where its last step was an exchange that wanted the word that it
         // found, and that word had the expected value. A value that differs is that of the word that the last
-        // step found, and another than the expected one. It is refused only where the last step was the
-        // third exchange, which wanted the one word of the race and found the other, another word that had
-        // the expected value too.
+        // step found, the load or an exchange that wanted another word, and another than the expected one. It
+        // is refused only where the last step was the third exchange, which wanted the one word of the race
+        // and found the other, another word that had the expected value too.
         ensures cause { EndsOnlyFor asks_of fed_of end_of
             (EndsFor (record { place = place; expected = expected; word = word })) result }
     {
@@ -90,6 +90,20 @@ impl PlainExchange {
         match *self {
             PlainExchange::Load(_) | PlainExchange::Try { .. } => None,
             PlainExchange::Ended(end) => Some(end),
+        }
+    }
+
+    /// Whether its step, where it finds this word, finds another value than the expected one and is no
+    /// exchange that wanted the word. With that it ends.
+    pub(crate) fn sees(&self, found: u64) -> bool
+        ensures { result ≡ sees_by self.now found }
+    {
+        match *self {
+            PlainExchange::Load(swap) => !same_value(swap.expected, held_by(found)),
+            PlainExchange::Try { swap, wanted, .. } => {
+                found != wanted && !same_value(swap.expected, held_by(found))
+            }
+            PlainExchange::Ended(_) => false,
         }
     }
 }

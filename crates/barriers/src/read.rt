@@ -2,6 +2,7 @@
 
 ghost use Rattle.std.specs.Prelude.{◌≡◌, ◌<◌, ◌≤◌, ◌^◌, ◌↔◌, IsSome};
 ghost use Rattle.call_steps.specs.declared.step.Step.TheVariants.{Ended as StepEnded};
+ghost use Rattle.handshakes.specs.PhaseWords.{phase_word_of, phase_word_at};
 ghost use Rattle.barriers.specs.declared.read.ReadMachine.TheVariants.{Header};
 ghost use Rattle.barriers.specs.Spots.{spot_of};
 ghost use Rattle.barriers.specs.Reads.{asks_of, fed_of, end_of};
@@ -13,32 +14,45 @@ use crate::heap_call::HeapCall;
 use crate::packed::{held_by, len_in};
 use crate::spot::Spot;
 use call_steps::{CallMachine, Machine, Step};
+use handshakes::{FollowMachine, PassView, Phase};
+use heap_words::Layout;
 
-/// Loads the header, and then the field. At most 2 steps.
+/// Loads the header, and then the field, and follows what the field held as the phase asks that the pass
+/// has acknowledged. At most 2 steps, and at most 4 to follow.
 ///
 /// The object is taken to be at rest, where its link says: its header is `Plain` or `Kept`. Any other
 /// state is read as these are.
 #[derive(Clone, Copy, Debug, PartialEq, Eq)]
 pub enum ReadMachine {
     /// Loads the header.
-    Header(Spot),
+    Header { spot: Spot, phase: Phase },
     /// Loads the field.
-    Field(Spot),
-    Ended(ReadEnd),
+    Field { spot: Spot, phase: Phase },
+    /// Follows what the field held. It has ended where this has.
+    Follow(FollowMachine),
+    /// It has ended: the field is at or past `len`, the object's number of fields.
+    NoField { len: u32 },
 }
 
 impl ReadMachine {
-    /// The read of a field of the object `birth`, which stands at `at`. The field number may be any.
-    pub fn new(birth: u32, at: u32, field: u32) -> ReadMachine
-        requires { at < 2 ^ 20 }
-        ensures machine { result ≡ Header (spot_of birth at field) }
+    /// The read of a field of the object `birth`, which stands at `at`, by this pass. The field number may
+    /// be any.
+    pub fn new(_layout: &Layout, view: PassView, birth: u32, at: u32, field: u32) -> ReadMachine
+        requires near { at < 2 ^ 20 }
+        requires acked { IsSome (phase_word_of view.acked) }
+        ensures machine { result ≡ Header (spot_of birth at field) (phase_word_at view.acked).phase }
 
-        // Whatever others do: it gives what the load of the field found, and it ends without a value only
-        // where its first step loaded a header whose len, which the end tells, is not above the field.
+        // Whatever others do: it gives what the load of the field found, where that is its last step; or,
+        // under Fix, the link that the load of the field found just before, going where the header at the
+        // link's address, which its last step loaded, says that the object is now. It ends without a value
+        // only where its first step loaded a header whose len, which the end tells, is not above the field.
         ensures cause { EndsOnlyFor asks_of fed_of end_of
-            (ReadEndsFor (spot_of birth at field)) result }
+            (ReadEndsFor (spot_of birth at field) (phase_word_at view.acked).phase) result }
     {
-        ReadMachine::Header(Spot::new(birth, at, field))
+        ReadMachine::Header {
+            spot: Spot::new(birth, at, field),
+            phase: view.phase(),
+        }
     }
 
     /// What the read ended with, and `None` before its end.
@@ -47,8 +61,9 @@ impl ReadMachine {
         ensures ended { IsSome result ↔ (asks_of self.now ≡ StepEnded) }
     {
         match *self {
-            ReadMachine::Header(_) | ReadMachine::Field(_) => None,
-            ReadMachine::Ended(end) => Some(end),
+            ReadMachine::Header { .. } | ReadMachine::Field { .. } => None,
+            ReadMachine::Follow(machine) => Some(ReadEnd::Got(machine.end()?.word)),
+            ReadMachine::NoField { len } => Some(ReadEnd::NoField { len }),
         }
     }
 }
@@ -64,24 +79,31 @@ impl Machine for ReadMachine {
 
     fn ask(&self) -> Step {
         match *self {
-            ReadMachine::Header(spot) => Step::Load { at: spot.at },
-            ReadMachine::Field(spot) => Step::Load { at: spot.place },
-            ReadMachine::Ended(_) => Step::Ended,
+            ReadMachine::Header { spot, .. } => Step::Load { at: spot.at },
+            ReadMachine::Field { spot, .. } => Step::Load { at: spot.place },
+            ReadMachine::Follow(machine) => machine.ask(),
+            ReadMachine::NoField { .. } => Step::Ended,
         }
     }
 
     fn feed(&mut self, found: u64) {
         *self = match *self {
-            ReadMachine::Header(spot) => {
+            ReadMachine::Header { spot, phase } => {
                 let len = len_in(found);
                 if spot.field < len {
-                    ReadMachine::Field(spot)
+                    ReadMachine::Field { spot, phase }
                 } else {
-                    ReadMachine::Ended(ReadEnd::NoField { len })
+                    ReadMachine::NoField { len }
                 }
             }
-            ReadMachine::Field(_) => { ReadMachine::Ended(ReadEnd::Got(held_by(found))) }
-            ReadMachine::Ended(end) => ReadMachine::Ended(end),
+            ReadMachine::Field { phase, .. } => {
+                ReadMachine::Follow(FollowMachine::in_phase(phase, held_by(found)))
+            }
+            ReadMachine::Follow(mut machine) => {
+                machine.feed(found);
+                ReadMachine::Follow(machine)
+            }
+            ReadMachine::NoField { len } => ReadMachine::NoField { len },
         };
     }
 }
@@ -99,12 +121,13 @@ impl CallMachine for ReadMachine {
 
     fn left(&self) -> u32
         ensures bound { result ≡ left_of self.now }
-        ensures few { result ≤ 2 }
+        ensures few { result ≤ 6 }
     {
         match self {
-            ReadMachine::Header(_) => 2,
-            ReadMachine::Field(_) => 1,
-            ReadMachine::Ended(_) => 0,
+            ReadMachine::Header { .. } => 6,
+            ReadMachine::Field { .. } => 5,
+            ReadMachine::Follow(machine) => machine.left(),
+            ReadMachine::NoField { .. } => 0,
         }
     }
 }

@@ -1,10 +1,11 @@
 //! Calls played by hand on plain words, with other threads' steps in between.
 
-ghost use Rattle.std.specs.Prelude.{◌≡◌};
+ghost use Rattle.std.specs.Prelude.{◌≡◌, IsSome};
+ghost use Rattle.handshakes.specs.PhaseWords.{phase_word_of};
 
 use super::*;
 use call_steps::{CallMachine, OutOfMemory, PlainWords, Step};
-use handshakes::PassView;
+use handshakes::{PassView, PhaseWord};
 use heap_history::Value;
 use heap_words::{FieldWord, Layout, pack};
 use std::alloc::Global;
@@ -26,6 +27,37 @@ const NEW: FieldWord = FieldWord::Link { birth: 1, at: 24 };
 const OLD_WORD: u64 = 0x2000_0000_0010_0061;
 
 const NEW_WORD: u64 = 0x2000_0000_0010_0018;
+
+/// The phase words of Free, Copy and Fix in cycle 1.
+const FREE: u64 = 8;
+
+const COPY: u64 = 11;
+
+const FIX: u64 = 12;
+
+/// A link to a second object, where it was before it was copied, and one to its copy.
+const LEFT: FieldWord = FieldWord::Link { birth: 2, at: 32 };
+
+const COPIED: FieldWord = FieldWord::Link { birth: 2, at: 97 };
+
+const LEFT_WORD: u64 = 0x2000_0000_0020_0020;
+
+/// The header of the second object: `Plain`, and `Forward` to the copy.
+const PLAIN: u64 = 0x1101;
+
+const FORWARD: u64 = 0x308_0000_1106;
+
+// The only pass, which has acknowledged this phase word.
+fn pass(rt: &impl Abort, acked: u64) -> PassView
+    ensures { IsSome (phase_word_of result.acked) }
+{
+    assert!(rt; PhaseWord::unpack(acked).is_some());
+    PassView {
+        pass: 1,
+        acked,
+        mark: 0,
+    }
+}
 
 // Does one step of the machine.
 fn step<M: CallMachine>(rt: &impl Abort, words: &mut PlainWords, machine: &mut M) -> Step {
@@ -57,13 +89,15 @@ fn heap(rt: &impl Abort, alloc: Global, field: u64) -> Result<PlainWords, OutOfM
 
 #[test]
 fn reads_and_writes_a_field(rt: HostRuntime) -> Result<(), Fail> {
+    let layout = Layout::new(1, 4, 8, 256)?;
+    let view = pass(&rt, FREE);
     let mut words = heap(&rt, rt.alloc(), OLD_WORD)?;
-    let mut read = ReadMachine::new(BIRTH, AT, 0);
+    let mut read = ReadMachine::new(&layout, view, BIRTH, AT, 0);
     assert_eq!(rt; step(&rt, &mut words, &mut read), Step::Load { at: 24 });
     assert_eq!(rt; read.end(), None);
     assert_eq!(rt; step(&rt, &mut words, &mut read), Step::Load { at: 25 });
     assert_eq!(rt; read.end(), Some(ReadEnd::Got(OLD)));
-    let mut write = WriteMachine::new(BIRTH, AT, 0, pack(FieldWord::Num(5)));
+    let mut write = WriteMachine::new(&layout, view, BIRTH, AT, 0, pack(FieldWord::Num(5)));
     assert_eq!(rt; step(&rt, &mut words, &mut write), Step::Load { at: 24 });
     assert_eq!(rt; write.end(), None);
     assert_eq!(rt;
@@ -78,13 +112,16 @@ fn reads_and_writes_a_field(rt: HostRuntime) -> Result<(), Fail> {
 
 #[test]
 fn finds_no_field(rt: HostRuntime) -> Result<(), Fail> {
+    let layout = Layout::new(1, 4, 8, 256)?;
+    let view = pass(&rt, FREE);
     let mut words = heap(&rt, rt.alloc(), OLD_WORD)?;
     let refused = TryRefusal::NoField { len: 8 };
+    let zero = FieldWord::Num(0);
     for field in [8, u32::MAX] {
-        let mut read = ReadMachine::new(BIRTH, AT, field);
-        let mut write = WriteMachine::new(BIRTH, AT, field, pack(FieldWord::Num(5)));
         let five = pack(FieldWord::Num(5));
-        let mut exchange = ExchangeMachine::new(BIRTH, AT, field, FieldWord::Num(0), five);
+        let mut read = ReadMachine::new(&layout, view, BIRTH, AT, field);
+        let mut write = WriteMachine::new(&layout, view, BIRTH, AT, field, five);
+        let mut exchange = ExchangeMachine::new(&layout, view, BIRTH, AT, field, zero, five);
         step(&rt, &mut words, &mut read);
         step(&rt, &mut words, &mut write);
         step(&rt, &mut words, &mut exchange);
@@ -99,6 +136,8 @@ fn finds_no_field(rt: HostRuntime) -> Result<(), Fail> {
 // ends with, and the field's word then. Each row begins with a link to the object from an old place.
 #[test]
 fn exchanges_a_field(rt: HostRuntime) -> Result<(), Fail> {
+    let layout = Layout::new(1, 4, 8, 256)?;
+    let view = pass(&rt, FREE);
     let raced = TryRefusal::Raced {
         loaded: OLD_WORD,
         found: NEW_WORD,
@@ -134,7 +173,7 @@ fn exchanges_a_field(rt: HostRuntime) -> Result<(), Fail> {
     ] {
         let mut words = heap(&rt, rt.alloc(), OLD_WORD)?;
         let five = pack(FieldWord::Num(5));
-        let mut exchange = ExchangeMachine::new(BIRTH, AT, 0, NEW, five);
+        let mut exchange = ExchangeMachine::new(&layout, view, BIRTH, AT, 0, NEW, five);
         step(&rt, &mut words, &mut exchange);
         for other in others {
             if let Some(put_by_other) = other {
@@ -145,6 +184,63 @@ fn exchanges_a_field(rt: HostRuntime) -> Result<(), Fail> {
         assert_eq!(rt; exchange.end(), Some(end));
         assert!(rt; 25 < words.len());
         assert_eq!(rt; words.word(25), word);
+    }
+    Ok(())
+}
+
+// The acknowledged phase, the field's word, the header of the second object, the number of steps, and
+// what the read gives.
+#[test]
+fn follows_what_it_reads(rt: HostRuntime) -> Result<(), Fail> {
+    let layout = Layout::new(1, 4, 8, 256)?;
+    for (acked, field, header, steps, got) in [
+        (FIX, LEFT_WORD, FORWARD, 3, COPIED),
+        (FIX, LEFT_WORD, PLAIN, 3, LEFT),
+        (FIX, 5, FORWARD, 2, FieldWord::Num(5)),
+        (COPY, LEFT_WORD, FORWARD, 2, LEFT),
+        (FREE, LEFT_WORD, FORWARD, 2, LEFT),
+    ] {
+        let mut words = heap(&rt, rt.alloc(), field)?;
+        put(&rt, &mut words, 32, header);
+        let mut read = ReadMachine::new(&layout, pass(&rt, acked), BIRTH, AT, 0);
+        assert_eq!(rt; play(&rt, &mut words, &mut read), steps);
+        assert_eq!(rt; read.end(), Some(ReadEnd::Got(got)));
+    }
+    Ok(())
+}
+
+#[test]
+fn follows_what_differs(rt: HostRuntime) -> Result<(), Fail> {
+    let layout = Layout::new(1, 4, 8, 256)?;
+    let five = pack(FieldWord::Num(5));
+    let mut words = heap(&rt, rt.alloc(), LEFT_WORD)?;
+    put(&rt, &mut words, 32, FORWARD);
+    let mut exchange = ExchangeMachine::new(&layout, pass(&rt, FIX), BIRTH, AT, 0, NEW, five);
+    assert_eq!(rt; play(&rt, &mut words, &mut exchange), 3);
+    assert_eq!(rt; exchange.end(), Some(ExchangeEnd::Differs(COPIED)));
+    assert_eq!(rt; words.len(), 33);
+    assert_eq!(rt; words.word(25), LEFT_WORD);
+    Ok(())
+}
+
+// A read sees what the field holds, and an exchange what differs, by the step behind the header's load.
+#[test]
+fn sees_the_value_of_a_field(rt: HostRuntime) -> Result<(), Fail> {
+    let layout = Layout::new(1, 4, 8, 256)?;
+    let view = pass(&rt, FIX);
+    let mut words = heap(&rt, rt.alloc(), LEFT_WORD)?;
+    let five = pack(FieldWord::Num(5));
+    let mut read = ReadMachine::new(&layout, view, BIRTH, AT, 0);
+    let mut exchange = ExchangeMachine::new(&layout, view, BIRTH, AT, 0, NEW, five);
+    for (by_read, by_exchange) in [(false, false), (true, true), (false, false)] {
+        assert_eq!(rt; PassMachine::Read(read).sees(LEFT_WORD), by_read);
+        assert_eq!(rt;
+            PassMachine::Exchange(exchange).sees(LEFT_WORD),
+            by_exchange
+        );
+        assert!(rt; !PassMachine::Exchange(exchange).sees(OLD_WORD));
+        step(&rt, &mut words, &mut read);
+        step(&rt, &mut words, &mut exchange);
     }
     Ok(())
 }
@@ -186,7 +282,7 @@ fn room(region: u32, used: u32) -> Room
 }
 
 // Plays the machine to its end, and gives the number of its steps.
-fn play(rt: &impl Abort, words: &mut PlainWords, machine: &mut NewMachine) -> u32 {
+fn play<M: CallMachine>(rt: &impl Abort, words: &mut PlainWords, machine: &mut M) -> u32 {
     for steps in 0..10 {
         if matches!(step(rt, words, machine), Step::Ended) {
             return steps;

@@ -3,6 +3,7 @@
 ghost use Rattle.std.specs.Prelude.{◌≡◌, ◌<◌, ◌≤◌, ◌^◌, ◌↔◌, IsSome};
 ghost use Rattle.call_steps.specs.declared.step.Step.TheVariants.{Ended as StepEnded};
 ghost use Rattle.heap_words.specs.FieldWords.{field_of};
+ghost use Rattle.handshakes.specs.PhaseWords.{phase_word_of};
 ghost use Rattle.barriers.specs.declared.write.WriteMachine.TheVariants.{Header};
 ghost use Rattle.barriers.specs.Spots.{spot_of};
 ghost use Rattle.barriers.specs.Writes.{asks_of, fed_of, end_of};
@@ -14,6 +15,8 @@ use crate::heap_call::HeapCall;
 use crate::packed::len_in;
 use crate::spot::Spot;
 use call_steps::{CallMachine, Machine, Step};
+use handshakes::PassView;
+use heap_words::Layout;
 
 /// Loads the header, and then stores the word in the field. At most 2 steps.
 ///
@@ -29,10 +32,18 @@ pub enum WriteMachine {
 }
 
 impl WriteMachine {
-    /// The write of a field of the object `birth`, which stands at `at`. The field number may be any;
-    /// the word is to be the packed word of a number or a link.
-    pub fn new(birth: u32, at: u32, field: u32, word: u64) -> WriteMachine
+    /// The write of a field of the object `birth`, which stands at `at`, by this pass. The field number may
+    /// be any; the word is to be the packed word of a number or a link.
+    pub fn new(
+        _layout: &Layout,
+        _view: PassView,
+        birth: u32,
+        at: u32,
+        field: u32,
+        word: u64,
+    ) -> WriteMachine
         requires near { at < 2 ^ 20 }
+        requires acked { IsSome (phase_word_of _view.acked) }
         requires packed { word < 2 ^ 62 }
         requires value { IsSome (field_of word) }
         ensures machine { result ≡ Header (spot_of birth at field) word }

@@ -1,12 +1,13 @@
--- Runs keep worlds lawful, and where every party has ended its answers are allowed.
+-- Runs keep worlds lawful, and where every party has ended the answers of the threads are allowed.
 use Rattle.std.proofs.Common.{◌≡◌, ℕ, zero, suc, ◌+◌, ◌-◌, ◌≤◌, ◌<◌, Bool, true, false, cond, List, [], ◌∷◌, length, get_or, Option, Some, None, refl, sym, ap, ◌∙◌, subst, arith, inl, inr, length-set}
 use Rattle.std.specs.Prelude.{not}
 use Rattle.std.specs.List.{filter, range_with_len, All, Contains}
 use Rattle.std.proofs.lemmas.Bool.Decides.{eqb_tells}
-use Rattle.std.proofs.lemmas.List.Elements.{All-filter, filter_passes}
-use Rattle.std.proofs.lemmas.List.FromFn.{length-range_with_len, get_or-range_with_len}
+use Rattle.std.proofs.lemmas.Bool.{le-ltb, not-true}
+use Rattle.std.proofs.lemmas.List.Elements.{All-contains, filter_passes}
 use Rattle.heap_words.specs.Layouts.{Sizes, IsPass}
 use Rattle.heap_history.specs.declared.call.Call.{Call}
+use Rattle.heap_history.specs.declared.call.Ended.{Ended}
 use Rattle.heap_history.specs.Histories.{pass_of}
 use Rattle.heap_script.specs.declared.script.Command.{Command}
 use Rattle.heap_script.specs.declared.script.Line.{Line}
@@ -21,14 +22,15 @@ use Rattle.gc_cycle.specs.declared.schedule.Schedule.{Schedule}
 use Rattle.gc_cycle.specs.declared.settling.Settled.{Settled}
 use Rattle.gc_cycle.specs.declared.settling.Settled.TheVariants as settled
 use Rattle.gc_cycle.specs.Schedules.{chooser_of, chosen_by}
-use Rattle.gc_cycle.specs.Settlings.{settled_of}
+use Rattle.gc_cycle.specs.Settlings.{settled_of, rested}
 use Rattle.gc_cycle.specs.Commands.{commands_by, commands_at}
 use Rattle.gc_cycle.specs.Tellings.{changes_of}
 use Rattle.gc_cycle.specs.Objects.{View}
-use Rattle.gc_cycle.specs.Worlds.{State, pass_at, answers_at, command_at, is_idle, taken_in, settled_at, stepped, fed, moved, turn_of}
-use Rattle.gc_cycle.specs.Lawful.{Lawful, IsAt}
+use Rattle.gc_cycle.specs.Worlds.{State, pass_at, answers_at, command_at, IsParty, is_idle, is_done, is_collector, can_step, taken_in, settled_at, stepped, fed, moved, pass_turn, collector_turn, turn_of}
+use Rattle.gc_cycle.specs.Lawful.{Lawful, IsAt, made_of, announced_in}
 use Rattle.gc_cycle.specs.Runs.{ready_of, is_none, is_over, turns_of, run_of}
 use Rattle.gc_cycle.proofs.ByThread.{commands_at-commands_by}
+use Rattle.gc_cycle.proofs.Running.{ready_is_party}
 use Rattle.gc_cycle.proofs.Schedules.{chosen_is_ready}
 use Rattle.gc_cycle.proofs.Tellings.{tells_allowed, All-changes_of}
 use Rattle.gc_cycle.proofs.Turning.{turn_keeps}
@@ -52,7 +54,7 @@ taken_stays w p (settled.Answered r answer call) = record { layout = refl; comma
 taken_stays w p (settled.Raced r) = record { layout = refl; commands = refl; passes = length-set w.passes (p - 1) r }
 
 settled_stays : (w : State) (p : ℕ) (r : PassRecord) (c : Option Command) → Stays w (settled_at w p r c)
-settled_stays w p r None = record { layout = refl; commands = refl; passes = length-set w.passes (p - 1) r }
+settled_stays w p r None = record { layout = refl; commands = refl; passes = length-set w.passes (p - 1) (rested r) }
 settled_stays w p r (Some c) = taken_stays w p (settled_of w.layout (length (changes_of w.told.log)) c r)
 
 moved_stays : (w : State) (p : ℕ) → Stays w (moved w p)
@@ -61,9 +63,15 @@ moved_stays w p =
     let s = settled_stays (stepped w k) p (fed w (pass_at w p) k) (command_at w p) in
     record { layout = s.layout; commands = s.commands; passes = s.passes }
 
+pass_stays : (w : State) (p : ℕ) → Stays w (pass_turn w p)
+pass_stays w p = elim (is_idle (pass_at w p).machine) as (λ b. Stays w (cond b w (moved w p))) [ true ↦ still w | false ↦ moved_stays w p ]
+
+collector_stays : (w : State) → Stays w (collector_turn w)
+collector_stays w = record { layout = refl; commands = refl; passes = refl }
+
 -- a turn keeps them
 pub turn_keeps_static : (w : State) (p : ℕ) → Stays w (turn_of w p)
-turn_keeps_static w p = elim (is_idle (pass_at w p).machine) as (λ b. Stays w (cond b w (moved w p))) [ true ↦ still w | false ↦ moved_stays w p ]
+turn_keeps_static w p = elim (is_collector w p) as (λ b. Stays w (cond b (collector_turn w) (pass_turn w p))) [ true ↦ collector_stays w | false ↦ pass_stays w p ]
 
 -- ---- the parties that can step
 
@@ -88,31 +96,27 @@ kept_in test a (suc n) q above below passes = kept_next test a n q above below p
       | inr apart ↦ some_behind a _ q (test a) (rest (omega (arith, above, apart.1)) (omega (arith, below)) passes)
     ]
 
-in_range : (a n : ℕ) → All (λ q. (a ≤ q) × (q < a + n)) (range_with_len a n)
-in_range a n i d within =
-    let small : i < n = omega (arith, within, length-range_with_len a n) in
-    let at = get_or-range_with_len a n i d small in
-    (omega (arith, at), omega (arith, at, small))
+-- a thread can step where it is in a machine
+pub thread_steps : (w : State) (p : ℕ) → IsPass w.layout p → can_step w p ≡ not (is_idle (pass_at w p).machine)
+thread_steps w p is =
+    let passes : is_collector w p ≡ false = le-ltb w.layout.passes p is.1 in
+    ap (λ (b : Bool). not (cond b (is_done w.collector) (is_idle (pass_at w p).machine))) passes
 
-not_idle : (m : PassMachine) → not (is_idle m) ≡ true → is_idle m ≡ false
-not_idle m on = opposite (is_idle m) on
-  where
-    opposite : (b : Bool) → not b ≡ true → b ≡ false
-    opposite true e = absurd cc
-    opposite false e = refl
-
--- those that have not ended are ready
-pub ready_if : (w : State) (q : ℕ) → 1 ≤ q → q ≤ length w.passes → is_idle (pass_at w q).machine ≡ false → Contains (ready_of w) q
-ready_if w q least most on = kept_in (λ party. not (is_idle (pass_at w party).machine)) 1 (length w.passes) q least (omega (arith, most)) (ap not on)
+-- the parties that can step are ready
+pub ready_if : (w : State) (q : ℕ) → IsParty w.layout q → can_step w q ≡ true → Contains (ready_of w) q
+ready_if w q is can = kept_in (can_step w) 1 (w.layout.passes + 1) q is.0 (omega (arith, is.1)) can
 
 -- and no others
-pub ready_is : (w : State) (q : ℕ) → Contains (ready_of w) q → (1 ≤ q) × (q ≤ length w.passes) × (is_idle (pass_at w q).machine ≡ false)
-ready_is w q (k, within, here) =
-    let test : ℕ → Bool = λ party. not (is_idle (pass_at w party).machine) in
-    let passes : test q ≡ true = subst (λ (x : ℕ). test x ≡ true) here (filter_passes test (range_with_len 1 (length w.passes)) k q within) in
-    let P : ℕ → Type 0 = λ x. (1 ≤ x) × (x < 1 + length w.passes) in
-    let range : P q = subst P here (All-filter test P (range_with_len 1 (length w.passes)) (in_range 1 (length w.passes)) k q within) in
-    (range.0, omega (arith, range.1), not_idle (pass_at w q).machine passes)
+pub ready_is : (w : State) (q : ℕ) → Contains (ready_of w) q → IsParty w.layout q × (can_step w q ≡ true)
+ready_is w q among = (ready_is_party w q among, All-contains (λ x. can_step w x ≡ true) (ready_of w) q (filter_passes (can_step w) (range_with_len 1 (w.layout.passes + 1))) among)
+
+-- a ready party is a thread or the collector
+pub ready_party : (w : State) (p : ℕ) → Contains (ready_of w) p → IsParty w.layout p
+ready_party w p among = (ready_is w p among).0
+
+-- a ready thread has not ended
+pub ready_thread : (w : State) (p : ℕ) → IsPass w.layout p → Contains (ready_of w) p → is_idle (pass_at w p).machine ≡ false
+ready_thread w p is among = not-true (is_idle (pass_at w p).machine) (sym (thread_steps w p is) ∙ (ready_is w p among).1)
 
 -- ---- runs
 
@@ -135,13 +139,9 @@ module _ (J : State → Type 0) (keeps : (w : State) (p : ℕ) → Contains (rea
   turns_keep zero chooser w holds = holds
   turns_keep (suc n) chooser w holds = next_keeps n chooser w (λ c x h. turns_keep n c x h) holds (is_over w) refl
 
--- a ready party is a pass
-pub ready_pass : (w : State) → Lawful w → (p : ℕ) → Contains (ready_of w) p → IsPass w.layout p
-ready_pass w lw p among = let r = ready_is w p among in (r.0, omega (arith, r.1, lw.passes))
-
 -- the world stays lawful
 pub turns_keep_lawful : (n : ℕ) (chooser : Chooser) (w : State) → Lawful w → Lawful (turns_of n chooser w)
-turns_keep_lawful n chooser w lw = turns_keep Lawful (λ x p among h. turn_keeps x h p (ready_pass x h p among)) n chooser w lw
+turns_keep_lawful n chooser w lw = turns_keep Lawful (λ x p among h. turn_keeps x h p (ready_party x p among)) n chooser w lw
 
 pub run_keeps : (schedule : Schedule) (steps : ℕ) (w : State) → Lawful w → Lawful (run_of schedule steps w)
 run_keeps schedule steps w lw = turns_keep_lawful steps (chooser_of schedule) w lw
@@ -155,29 +155,31 @@ run_keeps_static schedule steps w = turns_keep_static steps (chooser_of schedule
 
 -- ---- the end of a run
 
-idle_if : (w : State) (q : ℕ) → is_over w ≡ true → 1 ≤ q → q ≤ length w.passes → (b : Bool) → is_idle (pass_at w q).machine ≡ b → b ≡ true
-idle_if w q over least most true is = refl
-idle_if w q over least most false on =
-    let among = ready_if w q least most on in
+idle_if : (w : State) (p : ℕ) → is_over w ≡ true → IsPass w.layout p → (b : Bool) → is_idle (pass_at w p).machine ≡ b → b ≡ true
+idle_if w p over is true ended = refl
+idle_if w p over is false on =
+    let among = ready_if w p (is.0, omega (arith, is.1)) (thread_steps w p is ∙ ap not on) in
     absurd (omega (arith, none_is (ready_of w) over, among.1))
 
--- where the run is over, every party is idle
-pub over_is_idle : (w : State) → Lawful w → is_over w ≡ true → (p : ℕ) → IsPass w.layout p → is_idle (pass_at w p).machine ≡ true
-over_is_idle w lw over p is = idle_if w p over is.0 (omega (arith, is.1, lw.passes)) (is_idle (pass_at w p).machine) refl
+-- where the run is over, every thread has ended
+pub over_is_idle : (w : State) → is_over w ≡ true → (p : ℕ) → IsPass w.layout p → is_idle (pass_at w p).machine ≡ true
+over_is_idle w over p is = idle_if w p over is (is_idle (pass_at w p).machine) refl
 
--- one that is idle has answered its commands
-pub idle_at_end : (l : Sizes) (v : View) (r : PassRecord) (cs : List Command) (count : ℕ) (m : PassMachine) → is_idle m ≡ true → IsAt l v r cs count m → count ≡ length cs
-idle_at_end l v r cs count machine.Idle e at = at
-idle_at_end l v r cs count (machine.Poll m) e at = absurd cc
-idle_at_end l v r cs count (machine.New m) e at = absurd cc
-idle_at_end l v r cs count (machine.Read m) e at = absurd cc
-idle_at_end l v r cs count (machine.Write m) e at = absurd cc
-idle_at_end l v r cs count (machine.Exchange m) e at = absurd cc
+-- one that has ended has answered its commands
+pub idle_at_end : (l : Sizes) (made : ℕ → ℕ) (v : View) (log : List Ended) (announced : ℕ) (r : PassRecord) (cs : List Command) (count : ℕ) (m : PassMachine)
+    → is_idle m ≡ true → IsAt l made v log announced r cs count m → count ≡ length cs
+idle_at_end l made v log announced r cs count machine.Idle e at = at
+idle_at_end l made v log announced r cs count (machine.Poll m) e at = absurd cc
+idle_at_end l made v log announced r cs count (machine.New m) e at = absurd cc
+idle_at_end l made v log announced r cs count (machine.Read m) e at = absurd cc
+idle_at_end l made v log announced r cs count (machine.Write m) e at = absurd cc
+idle_at_end l made v log announced r cs count (machine.Exchange m) e at = absurd cc
+idle_at_end l made v log announced r cs count (machine.Retire m) e at = absurd cc
 
 -- all commands of each thread are answered
 pub over_is_answered : (w : State) → Lawful w → is_over w ≡ true → (p : ℕ) → IsPass w.layout p → length (answers_at w p) ≡ length (commands_at w.commands p)
 over_is_answered w lw over p is =
-    idle_at_end w.layout lw.view (pass_at w p) (commands_at w.commands p) (length (answers_at w p)) (pass_at w p).machine (over_is_idle w lw over p is) (lw.threads p is).at
+    idle_at_end w.layout (made_of w) lw.view w.told.log (announced_in w) (pass_at w p) (commands_at w.commands p) (length (answers_at w p)) (pass_at w p).machine (over_is_idle w over p is) (lw.threads p is).at
 
 -- the answers of the threads from one on
 all_allowed : (quota : ℕ) (history : List Call) (lines : List Line) (thread : ℕ) (answers : List (List Answer))

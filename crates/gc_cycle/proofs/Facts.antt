@@ -1,17 +1,24 @@
 -- Facts on lists and registers that turns share.
-use Rattle.std.proofs.Common.{◌≡◌, ◌≢◌, ℕ, zero, suc, ◌+◌, ◌-◌, ◌<◌, ◌≤◌, List, [], ◌∷◌, length, get_or, set, drop, map, Some, refl, sym, ap, ◌∙◌, subst, arith, lit<, get_or-set_same, get_or-set_other}
+use Rattle.std.proofs.Common.{◌*◌, Option, mul-le-mul_right, ◌≡◌, ◌≢◌, ℕ, zero, suc, ◌+◌, ◌-◌, ◌<◌, ◌≤◌, List, [], ◌∷◌, length, get_or, set, drop, map, Some, refl, sym, ap, ◌∙◌, subst, arith, lit<, get_or-set_same, get_or-set_other}
 use Rattle.std.specs.Prelude.{slice_get, sum_by}
 use Rattle.std.specs.List.{All}
 use Rattle.std.proofs.lemmas.List.Sums.{sum_by-cons}
 use Rattle.std.proofs.lemmas.List.{get_or_past}
 use Rattle.std.proofs.Math.Decide.{dec_lt}
-use Rattle.heap_words.specs.Layouts.{Sizes}
+use Rattle.std.specs.Option.{ForSome}
+use Rattle.space_reclaim.specs.OwnRegions.{IsOwn}
+use Rattle.heap_words.specs.Layouts.{Sizes, IsLayout, IsPass, IsRegion}
 use Rattle.heap_words.specs.declared.field_word.FieldWord.{FieldWord}
 use Rattle.heap_words.specs.declared.field_word.FieldWord.TheVariants.{Num}
 use Rattle.heap_history.specs.declared.call.Value.TheVariants as values
 use Rattle.barriers.specs.Values.{value_of}
 use Rattle.gc_cycle.specs.Settlings.{held}
 use Rattle.gc_cycle.specs.Objects.{View, Holds}
+
+-- ---- numbers
+
+pub refl_le : (n : ℕ) → n ≤ n
+refl_le n = omega arith
 
 -- ---- lists
 
@@ -68,3 +75,14 @@ held_holds l made v registers r all = elim (dec_lt r (length registers)) [
   | yes lt ↦ all r (Num 0) lt
   | no ge ↦ let past : length registers ≤ r = omega arith in subst (Holds l made v) (sym (get_or_past registers r (Num 0) past)) (lit< tt)
 ]
+
+-- ---- regions
+
+-- one of a pass's own is one of the layout
+pub own_region : (l : Sizes) (pass : ℕ) (o : Option ℕ) → IsLayout l → IsPass l pass → ForSome o (IsOwn l pass) → ForSome o (IsRegion l)
+own_region l pass o il is own region e =
+    let rows : (pass - 1 + 1) * l.quota ≤ l.passes * l.quota = mul-le-mul_right l.quota (omega (arith, is.0, is.1)) in
+    let within = own region e in
+    let least = within.0 in
+    let most = within.1 in
+    omega (arith, rows, least, most, il.quota.0)

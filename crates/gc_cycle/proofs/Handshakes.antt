@@ -390,6 +390,14 @@ module _ (l : Sizes) (cycles : ℕ) (m n acked : ℕ → ℕ) (is_layout : IsLay
     shows = record { phase = phase ∙ h.shows.phase; acks = λ pass there. acks pass there ∙ h.shows.acks pass there };
   }
 
+-- of the acknowledgements those of passes alone are told
+pub handshake_ext : (l : Sizes) (cycles : ℕ) (k : CollectorMachine) (m acked same : ℕ → ℕ) → ((pass : ℕ) → IsPass l pass → same pass ≡ acked pass) → Handshake l cycles k m acked → Handshake l cycles k m same
+handshake_ext l cycles k m acked same is h = record {
+  plays = h.plays;
+  keeps = λ pass there. subst (Answers (stage_of k) (passed_of k) pass) (sym (is pass there)) (h.keeps pass there);
+  shows = record { phase = h.shows.phase; acks = λ pass there. h.shows.acks pass there ∙ sym (is pass there) };
+}
+
 -- at the start these words are 0
 pub handshake_from_start : (l : Sizes) (cycles : ℕ) (m : ℕ → ℕ) → m phase_at ≡ 0 → ((pass : ℕ) → IsPass l pass → m (ack_at pass) ≡ 0) → Handshake l cycles (collector_of l cycles) m (λ pass. 0)
 handshake_from_start l cycles m phase acks = record {

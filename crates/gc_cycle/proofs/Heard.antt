@@ -17,7 +17,7 @@ use Rattle.heap_words.specs.declared.field_word.FieldWord.{FieldWord}
 use Rattle.heap_script.specs.declared.script.Command.{Command}
 use Rattle.heap_script.specs.declared.answer.Answer.{Answer}
 use Rattle.heap_script.specs.Allowed.{IsRun, first_seat}
-use Rattle.gc_cycle.specs.Tellings.{IsTold, IsNextCall, Tells, IsPlaced, entry_of, entries_of, changes_of, heap_of, counted, of_pass}
+use Rattle.gc_cycle.specs.Tellings.{IsTold, IsNextCall, Tells, IsPlaced, entry_of, entries_of, changes_of, heap_of, counted, of_pass, ended_in}
 use Rattle.gc_cycle.specs.Arranged.{place_of, IsRising, arranged, shown, changes_in, AreCounted, IsAnswered, IsHeard}
 use Rattle.gc_cycle.proofs.Tellings.{passes_of, changes_of-look, changes_of-change, tells_follows, legal_of}
 use Rattle.gc_cycle.proofs.Arranged.{rising_arranged, All-arranged, filter-yes, filter-not, filter-arranged}
@@ -317,18 +317,23 @@ tells_arranged quota thread made seen registers commands answers log heard t =
     let same : changes_of log ≡ changes_of (arranged log) = sym (changes_of-arranged log heard.counted) in
     let Run : List Call → Type 0 = λ h. IsRun quota thread h first_seat (take (length answers) commands) answers t.fronts t.seat in
     let Before : List Call → Type 0 = λ h. seen ≤ length h in
-    let Rest : List Call → Type 0 = λ h. made_by thread (drop seen h) ≡ [] in
+    let Rest : List Call → Type 0 = λ h. made_by thread (drop t.seat.seen h) ≡ [] in
     record {
       fronts = t.fronts;
       seat = t.seat;
       run = subst Run same t.run;
       calls_are = told_pass quota thread made seen registers commands answers log t ∙ t.calls_are;
       registers_are = t.registers_are;
-      seen_is = t.seen_is;
+      seen_grows = t.seen_grows;
       seen_before = subst Before same t.seen_before;
       lens_are = t.lens_are;
       rest = subst Rest same t.rest;
     }
+
+-- So its calls in the shown history are those of its commands.
+pub tells_shown : (quota thread made seen : ℕ) (registers : List FieldWord) (commands : List Command) (answers : List Answer) (log : List Ended) → IsHeard log → (t : Tells quota thread made seen registers commands answers log)
+    → of_pass thread (arranged log) ≡ ended_in thread first_seat (take (length answers) commands) answers t.fronts
+tells_shown quota thread made seen registers commands answers log heard t = told_pass quota thread made seen registers commands answers log t ∙ t.calls_are
 
 -- The arranged calls are a legal history, where each call is one of these passes', and each pass's answers tell of its calls.
 pub heard_legal : (quota passes : ℕ) (made seen : ℕ → ℕ) (registers : ℕ → List FieldWord) (commands : ℕ → List Command) (answers : ℕ → List Answer) (log : List Ended)

@@ -1,6 +1,8 @@
 pub mod AllowedAnswers
 pub mod Arranged
 pub mod ByThread
+pub mod Collecting
+pub mod CollectorEnds
 pub mod CollectorLaws
 pub mod Facts
 pub mod Frames
@@ -13,8 +15,11 @@ pub mod Moving
 pub mod Opening
 pub mod Places
 pub mod Playing
+pub mod Polling
 pub mod Quiet
+pub mod Retiring
 pub mod Running
+pub mod Safe
 pub mod Schedules
 pub mod Showing
 pub mod SoloEnds
@@ -22,6 +27,7 @@ pub mod Starting
 pub mod Stores
 pub mod Sums
 pub mod Taking
+pub mod TakingMore
 pub mod TellingLaws
 pub mod Tellings
 pub mod Turning

@@ -1,4 +1,7 @@
 -- The store of a new header makes the object.
+use Rattle.gc_cycle.proofs.Heard.{heard_next}
+use Rattle.handshakes.specs.PhaseWords.{retired_word}
+use Rattle.gc_cycle.specs.Arranged.{IsHeard}
 use Rattle.std.proofs.Common.{◌≡◌, ◌≢◌, ℕ, zero, suc, ◌+◌, ◌-◌, ◌*◌, ◌<◌, ◌≤◌, List, [], ◌∷◌, ◌++◌, length, set, map, replicate, true, Option, Some, None, refl, sym, ap, ◌∙◌, subst, arith, inl, inr, leb, length-append, length-set}
 use Rattle.std.specs.List.{All}
 use Rattle.std.specs.Ordering.{nat_cmp}
@@ -8,7 +11,7 @@ use Rattle.std.proofs.lemmas.Bool.Decides.{eqb_tells}
 use Rattle.std.proofs.lemmas.List.{map-set}
 use Rattle.std.proofs.lemmas.List.Elements.{All-set}
 use Rattle.std.proofs.Math.Nat.{mul-le-mul_right}
-use Rattle.heap_words.specs.Layouts.{Sizes, IsLayout, IsPass, regions_of, region_at, first_word}
+use Rattle.heap_words.specs.Layouts.{Sizes, IsLayout, IsPass, regions_of, region_at, first_word, root_at}
 use Rattle.heap_words.specs.declared.field_word.FieldWord.{FieldWord}
 use Rattle.heap_words.specs.declared.field_word.FieldWord.TheVariants.{Num, Link}
 use Rattle.object_headers.specs.Headers.{word_of_header}
@@ -42,9 +45,9 @@ use Rattle.gc_cycle.specs.Objects.{View, Laid, AllHold, Agrees, IsFresh, Holds, 
 use Rattle.gc_cycle.specs.Tellings.{Tells, IsTold, changes_of, heap_of}
 use Rattle.gc_cycle.specs.Commands.{commands_at}
 use Rattle.gc_cycle.specs.Worlds.{State, pass_at, answered, concluded, moved_by, stepped, fed, settled_at}
-use Rattle.gc_cycle.specs.Lawful.{Lawful, IsThread, IsNewAt, IsPlacedAt, made_of, used_of}
+use Rattle.gc_cycle.specs.Lawful.{Lawful, IsThread, IsNewAt, IsPlacedAt, made_of, used_of, acked_of, announced_in}
 use Rattle.gc_cycle.proofs.Frames.{Onward, made_here, made_there, used_here, used_there}
-use Rattle.gc_cycle.proofs.Going.{after_answer, going_on, telling}
+use Rattle.gc_cycle.proofs.Going.{after_answer, going_on, telling, handshake_low, put_same, root_before}
 use Rattle.gc_cycle.proofs.Going as going
 use Rattle.gc_cycle.proofs.Tellings.{told_push, next_change, heap_of-change, tells_change}
 use Rattle.gc_cycle.proofs.Views.{grown, at_here, at_there, zeros_here, fields_kept, other_birth, is_new_or_old, object_grows, new_is_object, laid_new, all_hold_of, all_hold_new, base_inside}
@@ -112,7 +115,7 @@ module _ (l : Sizes) (used made made' : ℕ → ℕ) (p len : ℕ) (v : View) (h
 -- ---- the turn
 
 module _ (w : State) (lw : Lawful w) (p : ℕ) (is : IsPass w.layout p) (dst len : ℕ)
-    (new : IsNewAt (pass_at w p).room (commands_at w.commands p) (answered w p) dst len) where
+    (new : IsNewAt (pass_at w p).room (commands_at w.commands p) (answered w p) dst len) (runs : (pass_at w p).view.acked ≢ retired_word) where
   abbrev l : Sizes
   l = w.layout
 
@@ -125,7 +128,7 @@ module _ (w : State) (lw : Lawful w) (p : ℕ) (is : IsPass w.layout p) (dst len
   abbrev m : ℕ → ℕ
   m = reading w.words
 
-  abbrev thread : IsThread l m lw.view (made_of w) w.told.log p (commands_at w.commands p) (going.answers w lw p is) r
+  abbrev thread : IsThread l m lw.view (made_of w) w.told.log (announced_in w) p (commands_at w.commands p) (going.answers w lw p is) r
   thread = lw.threads p is
 
   -- ---- the words
@@ -215,6 +218,7 @@ module _ (w : State) (lw : Lawful w) (p : ℕ) (is : IsPass w.layout p) (dst len
     at = at_same;
     lens = λ b object. ap length (fields_kept l (used_of w) (made_of w) p len lw.view b (other_birth l (made_of w) p is few left b object));
     regions = λ q other apart. low_same (region_at l (first_own l q)) (own_word_low l il q other);
+    roots = λ q other apart i small. low_same (root_at l q i) (omega (arith, root_before l q i other small));
   }
 
   link_holds : Holds l (made_of after) view link
@@ -237,8 +241,8 @@ module _ (w : State) (lw : Lawful w) (p : ℕ) (is : IsPass w.layout p) (dst len
   fresh : IsFresh l (made_of after) (heap_of (w.told.log ++ ended ∷ []))
   fresh = subst (IsFresh l (made_of after)) (sym heap_is) (fresh_new l (used_of w) (made_of w) (made_of after) p len lw.view (heap_of w.told.log) is few left makes makes_same lw.fresh)
 
-  heard : IsTold (w.told.log ++ ended ∷ [])
-  heard = told_push w.told.log ended lw.told (next_change w.told.log call replies.Made refl said (λ e. cc))
+  heard : IsHeard (w.told.log ++ ended ∷ [])
+  heard = heard_next w.told.log ended lw.told (next_change w.told.log call replies.Made refl said (λ e. cc))
 
   -- ---- the thread
 
@@ -258,18 +262,18 @@ module _ (w : State) (lw : Lawful w) (p : ℕ) (is : IsPass w.layout p) (dst len
   made_answered : Lawful (concluded (record w { words = words }) p x answer_is (Some ended))
   made_answered =
       after_answer w lw p is words (commands.New dst len) new.command answer_is (Some ended) x
-      (length-applied (Store at header) w.words) (low_same 0 (omega arith) ∙ lw.phase) refl heard
-      view laid fields agrees fresh on refl (length-set r.registers dst link ∙ thread.eight) registers tells
+      (length-applied (Store at header) w.words) (acked_of w) (put_same (acked_of w) p) (handshake_low w lw p is words (λ a low. low_same a (omega (arith, low)))) refl heard
+      view laid fields agrees fresh on thread.number thread.unmarked runs (length-set r.registers dst link ∙ thread.eight) registers tells
       (inr (refl, refl)) (omega arith) (omega arith) (λ e. claimed (ap (λ (y : Room). y.region) e))
 
 -- The header of a new object is stored: the object is made, and the register leads to it.
 pub made_turn : (w : State) (lw : Lawful w) (p : ℕ) (is : IsPass w.layout p) (placement : Placement)
     → IsPlacedAt w.layout (pass_at w p).view.pass (pass_at w p).made (pass_at w p).room (commands_at w.commands p) (answered w p) placement
-    → Lawful (moved_by w p (machine.New (make.Header placement)))
-made_turn w lw p is placement at =
+    → (pass_at w p).view.acked ≢ retired_word → Lawful (moved_by w p (machine.New (make.Header placement)))
+made_turn w lw p is placement at runs =
     let l = w.layout in
     let r = pass_at w p in
-    let number : r.view.pass ≡ p = ap (λ (v : PassView). v.pass) (lw.threads p is).number in
+    let number : r.view.pass ≡ p = (lw.threads p is).number in
     let front = length (changes_of w.told.log) + 1 in
     let room : ℕ → Room = λ k. record { region = Some (first_own l k); used = r.room.used + at.len + 1; last = Some (first_own l k) } in
     let here : ℕ → Placement = λ k. placed (next_birth k r.made) at.len (first_own l k) (first_word l (first_own l k)) r.room.used (Some (first_own l k)) in
@@ -285,4 +289,4 @@ made_turn w lw p is placement at =
     let K : ℕ → Type 0 = λ k. Lawful (concluded (record w { words = put k }) p (x k) (answers.Made (next_birth k r.made)) (Some (call k))) in
     let O : Option Command → Type 0 = λ o. Lawful (settled_at (stepped w (machine.New (make.Header (here r.view.pass)))) p (fed w r (machine.New (make.Header (here r.view.pass)))) o) in
     let P : Placement → Type 0 = λ y. Lawful (moved_by w p (machine.New (make.Header y))) in
-    subst P (sym at.placement_is) (subst O (sym at.new.command) (subst K (sym number) (made_answered w lw p is at.dst at.len at.new)))
+    subst P (sym at.placement_is) (subst O (sym at.new.command) (subst K (sym number) (made_answered w lw p is at.dst at.len at.new runs)))

@@ -1,14 +1,13 @@
 -- The opening world is lawful.
-use Rattle.std.proofs.Common.{◌≡◌, ◌≢◌, ℕ, zero, suc, ◌+◌, ◌-◌, ◌<◌, ◌≤◌, List, [], ◌∷◌, length, get_or, set, map, replicate, cond, Bool, true, false, Some, None, refl, sym, ap, ◌∙◌, subst, arith, lit<, inl, inr, ltb, length-set}
+use Rattle.std.proofs.Common.{◌≡◌, ◌≢◌, ℕ, zero, suc, ◌+◌, ◌-◌, ◌<◌, ◌≤◌, List, [], ◌∷◌, length, get_or, set, map, replicate, cond, Bool, true, false, Some, None, refl, sym, ap, ◌∙◌, subst, arith, lit<, lit≤, inl, inr, ltb, length-set}
 use Rattle.std.specs.List.{All}
 use Rattle.std.specs.Ordering.{nat_cmp}
 use Rattle.std.specs.Cmp.{nat_cmp_is}
 use Rattle.std.specs.declared.cmp.Ordering.TheVariants.{Greater}
-use Rattle.std.proofs.lemmas.Bool.{lt-ltb, le-ltb}
+use Rattle.std.proofs.lemmas.Bool.{ltb-true, ltb-false}
 use Rattle.std.proofs.lemmas.List.{length-map, length-replicate, get_or-replicate}
 use Rattle.std.proofs.lemmas.List.Elements.{All-from_recursion, All-weaker}
-use Rattle.std.proofs.Math.Decide.{dec_lt}
-use Rattle.heap_words.specs.Layouts.{Sizes, IsLayout, IsPass, first_word, region_at, words_of}
+use Rattle.heap_words.specs.Layouts.{Sizes, IsLayout, IsPass, first_word, phase_at, ack_at, region_at, words_of}
 use Rattle.heap_words.specs.FieldWords.{word_of}
 use Rattle.heap_words.specs.declared.field_word.FieldWord.TheVariants.{Num}
 use Rattle.object_headers.specs.Headers.{word_of_header}
@@ -27,16 +26,22 @@ use Rattle.heap_script.specs.Allowed.{commands_of}
 use Rattle.call_steps.specs.StepLaws.{reading, Put, Put-set}
 use Rattle.barriers.specs.NewObjects.{new_header}
 use Rattle.barriers.specs.declared.pass.PassRecord.{PassRecord}
-use Rattle.barriers.specs.declared.pass.PassMachine.TheVariants as machine
-use Rattle.gc_cycle.specs.Settlings.{poll_before}
+use Rattle.barriers.specs.declared.pass.PassMachine.{PassMachine}
+use Rattle.gc_cycle.specs.Collectors.{collector_of, cycles_of}
+use Rattle.gc_cycle.specs.Handshakes.{Handshake}
+use Rattle.gc_cycle.specs.Settlings.{poll_before, retirement}
 use Rattle.gc_cycle.specs.Objects.{View, Stands, Laid, AllHold, Agrees, IsFresh, Holds, IsOwn, IsObject, base}
 use Rattle.gc_cycle.specs.Commands.{commands_by, commands_at}
 use Rattle.gc_cycle.proofs.TellingLaws.{length-agains_of}
-use Rattle.gc_cycle.specs.Worlds.{pass_at, answers_at, nobody, opening_words, opening_registers, opening_pass, opening_passes, opening_state}
-use Rattle.gc_cycle.specs.Lawful.{Lawful, IsThread, IsScript, IsAt, IsUnclaimed, HasRoom, no_room, made_of, used_of, rooms_of}
+use Rattle.gc_cycle.specs.Worlds.{pass_at, answers_at, nobody, opening_words, opening_registers, fresh_pass, opening_pass, opening_passes, opening_state}
+use Rattle.gc_cycle.specs.Lawful.{Lawful, IsThread, IsScript, IsAt, IsAcked, IsUnclaimed, AreStored, HasRoom, no_room, stored_of, made_of, used_of, acked_of, announced_in, rooms_of}
 use Rattle.gc_cycle.proofs.ByThread.{length-commands_by, commands_at-commands_by, total-commands_by, fit-commands_of}
+use Rattle.gc_cycle.proofs.Safe.{safe_of}
+use Rattle.gc_cycle.proofs.Collecting.{cycles_are, none_earlier}
+use Rattle.gc_cycle.proofs.Handshakes.{handshake_ext, handshake_from_start, plays_from_start}
+use Rattle.gc_cycle.proofs.Heard.{heard_opening}
 use Rattle.gc_cycle.proofs.Made.{own_is_region, own_word_low}
-use Rattle.gc_cycle.proofs.Tellings.{tells_opening, told_opening}
+use Rattle.gc_cycle.proofs.Tellings.{tells_opening}
 use Rattle.gc_cycle.proofs.Views.{before_base, base_inside, zeros_hold}
 
 -- ---- scripts that fit, and whose objects fit one region of each thread
@@ -102,8 +107,11 @@ module _ (l : Sizes) (il : IsLayout l) where
   elsewhere : (a : ℕ) → a < words_of l → a ≢ region_at l 0 → a ≢ first_word l 0 → reading (opening_words l) a ≡ 0
   elsewhere a h ne nf = put_header.elsewhere a nf ∙ put_region.elsewhere a ne ∙ get_or-replicate (words_of l) a 0 0 h
 
-  phase_free : reading (opening_words l) 0 ≡ 0
-  phase_free = elsewhere 0 (omega arith) (λ e. omega (arith, e)) (λ e. omega (arith, e))
+  phase_none : reading (opening_words l) phase_at ≡ 0
+  phase_none = elsewhere phase_at (omega arith) (λ e. omega (arith, e)) (λ e. omega (arith, e))
+
+  ack_none : (p : ℕ) → IsPass l p → reading (opening_words l) (ack_at p) ≡ 0
+  ack_none p is = elsewhere (ack_at p) (omega (arith, is.1)) (λ e. omega (arith, e, is.1)) (λ e. omega (arith, e, is.1))
 
   -- the regions of the passes are Free
   unclaimed_at : (p : ℕ) → IsPass l p → reading (opening_words l) (region_at l (first_own l p)) ≡ 0
@@ -168,29 +176,44 @@ module _ (l : Sizes) (il : IsLayout l) where
 
     -- ---- one thread
 
-    opening_at : (p : ℕ) (cs : List Command) → IsAt l (first_view l) (opening_pass l cs p) cs 0 (opening_pass l cs p).machine
-    opening_at p cs = elim (dec_lt 0 (length cs)) [
-      | yes lt ↦ let e : ltb 0 (length cs) ≡ true = lt-ltb _ _ lt in rw e (refl, lt)
-      | no ge ↦ let e : ltb 0 (length cs) ≡ false = le-ltb _ _ (omega arith) in rw e (omega (arith, ge))
-    ]
+    -- its machine is the poll before its first command, or its retirement
+    module _ (p : ℕ) (cs : List Command) where
+      abbrev machine_by : Bool → PassMachine
+      machine_by more = cond more (poll_before (fresh_pass l p)) (retirement l (fresh_pass l p))
 
-    opening_unclaimed : (p : ℕ) (x : PassRecord) → IsPass l p → (b : Bool) → IsUnclaimed l p no_room (reading (opening_words l)) (cond b (poll_before x) machine.Idle)
-    opening_unclaimed p x is true = λ e. unclaimed_at p is
-    opening_unclaimed p x is false = λ e. unclaimed_at p is
+      opening_at : (announced : ℕ) (more : Bool) → ltb 0 (length cs) ≡ more → IsAt l made (first_view l) [] announced (opening_pass l cs p) cs 0 (machine_by more)
+      opening_at announced true e = (refl, ltb-true 0 (length cs) e)
+      opening_at announced false e = (record { retire_is = refl; all_answered = omega (arith, ltb-false 0 (length cs) e) }, lit≤ tt)
 
-    opening_thread : (p : ℕ) → IsPass l p → (cs : List Command) → rooms_of cs ≤ 64 → IsThread l (reading (opening_words l)) (first_view l) made [] p cs [] (opening_pass l cs p)
-    opening_thread p is cs room = record {
-      number = refl;
-      eight = refl;
-      registers = registers_hold;
-      tells = tells_opening l.quota p (opening_registers l) cs refl;
-      room = inl refl;
-      room_left = omega (arith, room);
-      made_few = omega arith;
-      answers_fit = omega arith;
-      unclaimed = opening_unclaimed p (opening_pass l cs p) is (ltb 0 (length cs));
-      at = opening_at p cs;
-    }
+      opening_unclaimed : (more : Bool) → IsPass l p → IsUnclaimed l p no_room (reading (opening_words l)) (machine_by more)
+      opening_unclaimed true is = λ e. unclaimed_at p is
+      opening_unclaimed false is = λ e. unclaimed_at p is
+
+      opening_acked : (more : Bool) → IsAcked (machine_by more) 0
+      opening_acked true = λ e. absurd cc
+      opening_acked false = λ e. absurd cc
+
+      -- no register is stored
+      opening_stored : (more : Bool) → AreStored l (reading (opening_words l)) p (opening_registers l) (stored_of (machine_by more))
+      opening_stored true i small = absurd (omega arith)
+      opening_stored false i small = absurd (omega arith)
+
+      opening_thread : (announced : ℕ) → IsPass l p → rooms_of cs ≤ 64 → IsThread l (reading (opening_words l)) (first_view l) made [] announced p cs [] (opening_pass l cs p)
+      opening_thread announced is room = record {
+        number = refl;
+        unmarked = refl;
+        acked = opening_acked (ltb 0 (length cs));
+        eight = refl;
+        registers = registers_hold;
+        tells = tells_opening l.quota p (opening_registers l) cs refl;
+        room = inl refl;
+        room_left = omega (arith, room);
+        made_few = omega arith;
+        answers_fit = omega arith;
+        unclaimed = opening_unclaimed (ltb 0 (length cs)) is;
+        stored = opening_stored (ltb 0 (length cs));
+        at = opening_at announced (ltb 0 (length cs)) refl;
+      }
 
 -- ---- the world at the start
 
@@ -218,16 +241,31 @@ module _ (s : Reading) (script : IsScript s.layout (commands_by s.layout.passes 
     agains = length-agains_of lists;
   }
 
+  acks : (p : ℕ) → IsPass s.layout p → acked_of (opening_state s) p ≡ 0
+  acks p is = ap (λ (x : PassRecord). x.view.acked) (pass_is p is)
+
+  plays_as_many : cycles_of (collector_of s.layout s.cycles) ≡ s.cycles
+  plays_as_many = cycles_are s.layout s.cycles (collector_of s.layout s.cycles) (plays_from_start s.layout s.cycles)
+
+  -- no word is announced or acknowledged
+  shakes : Handshake s.layout (cycles_of (collector_of s.layout s.cycles)) (collector_of s.layout s.cycles) (reading (opening_words s.layout)) (acked_of (opening_state s))
+  shakes =
+      let l = s.layout in
+      let k = collector_of l s.cycles in
+      let m : ℕ → ℕ = reading (opening_words l) in
+      let from_start = handshake_from_start l s.cycles m (phase_none l script.layout) (ack_none l script.layout) in
+      subst (λ (n : ℕ). Handshake l n k m (acked_of (opening_state s))) (sym plays_as_many) (handshake_ext l s.cycles k m (λ pass. 0) (acked_of (opening_state s)) acks from_start)
+
   thread_is : (p : ℕ) → IsPass s.layout p
-      → IsThread s.layout (reading (opening_words s.layout)) (first_view s.layout) (made_of (opening_state s)) [] p (commands_at lists p) (answers_at (opening_state s) p) (pass_at (opening_state s) p)
+      → IsThread s.layout (reading (opening_words s.layout)) (first_view s.layout) (made_of (opening_state s)) [] (announced_in (opening_state s)) p (commands_at lists p) (answers_at (opening_state s) p) (pass_at (opening_state s) p)
   thread_is p is =
-      let T : List Answer → PassRecord → Type 0 = λ answers x. IsThread s.layout (reading (opening_words s.layout)) (first_view s.layout) (made_of (opening_state s)) [] p (commands_at lists p) answers x in
-      let here = opening_thread s.layout script.layout (used_of (opening_state s)) (made_of (opening_state s)) uses makes p is (commands_at lists p) (script.rooms p is) in
+      let T : List Answer → PassRecord → Type 0 = λ answers x. IsThread s.layout (reading (opening_words s.layout)) (first_view s.layout) (made_of (opening_state s)) [] (announced_in (opening_state s)) p (commands_at lists p) answers x in
+      let here = opening_thread s.layout script.layout (used_of (opening_state s)) (made_of (opening_state s)) uses makes p (commands_at lists p) (announced_in (opening_state s)) is (script.rooms p is) in
       subst (T (answers_at (opening_state s) p)) (sym (pass_is p is)) (subst (λ (answers : List Answer). T answers (opening_pass s.layout (commands_at lists p) p)) (sym (opening_answers lists (p - 1))) here)
 
 -- The world at the start is lawful.
-pub opening_lawful : (s : Reading) → IsScript s.layout (commands_by s.layout.passes s.lines) → Lawful (opening_state s)
-opening_lawful s script =
+pub opening_lawful : (s : Reading) → IsScript s.layout (commands_by s.layout.passes s.lines) → s.cycles ≤ 64 → Lawful (opening_state s)
+opening_lawful s script few =
     let l = s.layout in
     let il = script.layout in
     let used = used_of (opening_state s) in
@@ -235,7 +273,9 @@ opening_lawful s script =
     record {
       script = script;
       width = opening_width l il;
-      phase = phase_free l il;
+      cycles = omega (arith, plays_as_many s script, few);
+      awaited = none_earlier 0;
+      handshake = shakes s script;
       passes = length-opening_passes l 1 (lists s script) ∙ script.threads;
       room = has_room s script;
       view = first_view l;
@@ -243,7 +283,11 @@ opening_lawful s script =
       fields = first_fields l il used made (uses s script) (makes s script);
       agrees = first_agrees l il used made (uses s script) (makes s script);
       fresh = first_fresh l il used made (uses s script) (makes s script);
-      told = told_opening;
+      told = heard_opening;
       owners = All-from_recursion (λ (e : Ended). IsPass l (pass_of e.call)) [] tt;
+      safe = λ p is.
+          let t = thread_is s script p is in
+          safe_of l (reading (opening_words l)) used made (first_view l) (first_laid l il used made (uses s script) (makes s script))
+          [] (announced_in (opening_state s)) (pass_at (opening_state s) p) (commands_at (lists s script) p) (length (answers_at (opening_state s) p)) (pass_at (opening_state s) p).machine t.registers t.at;
       threads = thread_is s script;
     }

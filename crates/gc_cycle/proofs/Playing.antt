@@ -1,5 +1,5 @@
 -- Turns of the parties, one after another.
-use Rattle.std.proofs.Common.{◌≡◌, ◌≢◌, ℕ, zero, suc, ◌+◌, ◌-◌, ◌<◌, ◌≤◌, Bool, true, false, List, length, get_or, drop, Option, Some, None, cond, refl, arith, length-set, add-one, drop-cons}
+use Rattle.std.proofs.Common.{◌≡◌, ◌≢◌, ℕ, zero, suc, ◌+◌, ◌-◌, ◌<◌, ◌≤◌, Bool, true, false, List, length, get_or, drop, Option, Some, None, cond, refl, sym, ap, ◌∙◌, not, arith, length-set, add-one, drop-cons}
 use Rattle.heap_script.specs.declared.script.Command.{Command}
 use Rattle.barriers.specs.declared.pass.PassRecord.{PassRecord}
 use Rattle.call_steps.specs.declared.step.Step.{Step}
@@ -9,7 +9,14 @@ use Rattle.gc_cycle.specs.declared.settling.Settled.{Settled}
 use Rattle.gc_cycle.specs.declared.settling.Settled.TheVariants as settled
 use Rattle.gc_cycle.specs.Settlings.{settled_of}
 use Rattle.gc_cycle.specs.Tellings.{changes_of}
-use Rattle.gc_cycle.specs.Worlds.{State, pass_at, command_at, is_idle, turn_of, moved, stepped, fed, settled_at, taken_in, played, steps_in}
+use Rattle.call_steps.specs.Steps.{applied, found_by}
+use Rattle.gc_cycle.specs.declared.collector.CollectorMachine.{CollectorMachine}
+use Rattle.gc_cycle.specs.declared.collector.CollectorMachine.TheVariants as collector
+use Rattle.gc_cycle.specs.Collectors.{awaits_behind}
+use Rattle.gc_cycle.specs.Collectors as collectors
+use Rattle.gc_cycle.specs.Worlds.{changes_now, State, pass_at, command_at, is_idle, is_done, is_collector, IsParty, can_step, collector_turn, pass_turn, turn_of, moved, stepped, fed, settled_at, taken_in, played, steps_in}
+use Rattle.heap_words.specs.Layouts.{IsPass}
+use Rattle.std.proofs.lemmas.Bool.{ltb-false}
 use Rattle.gc_cycle.specs.Runs.{alone}
 
 -- ---- what a turn leaves
@@ -38,8 +45,14 @@ by_end : (ended : Bool) (w then : State) → IsSameSize w then → IsSameSize w 
 by_end true w then same = record { layout = refl; passes = refl }
 by_end false w then same = same
 
+by_party : (collects : Bool) (w one other : State) → IsSameSize w one → IsSameSize w other → IsSameSize w (cond collects one other)
+by_party true w one other first second = first
+by_party false w one other first second = second
+
 pub turn_of-size : (w : State) (party : ℕ) → IsSameSize w (turn_of w party)
-turn_of-size w party = by_end (is_idle (pass_at w party).machine) w (moved w party) (moved-size w party)
+turn_of-size w party =
+    by_party (is_collector w party) w (collector_turn w) (pass_turn w party) (record { layout = refl; passes = refl })
+    (by_end (is_idle (pass_at w party).machine) w (moved w party) (moved-size w party))
 
 -- ---- turns of one party
 
@@ -51,18 +64,55 @@ alone-more n party w = rw add-one (go n w)
     go zero w = refl
     go (suc n) w = go n (turn_of w party)
 
--- ---- a turn of a party that has not ended
+-- ---- a turn that takes a step, and one that takes none
 
-pub turn_of-on : (w : State) (party : ℕ) → is_idle (pass_at w party).machine ≡ false → turn_of w party ≡ moved w party
-turn_of-on w party on = rw on refl
+-- a party that can not step leaves the world
+rests : (w : State) (party : ℕ) (collects idle : Bool) (k : CollectorMachine) → w.collector ≡ k → not (cond collects (is_done k) idle) ≡ false → cond collects (collector_turn w) (cond idle w (moved w party)) ≡ w
+rests w party true idle (collector.Announce s) e no_step = absurd cc
+rests w party true idle (collector.Await s pass m) e no_step = absurd cc
+rests w party true idle (collector.Done s) e no_step = ap (λ (k : CollectorMachine). record w { words = applied (collectors.asks_of k) w.words; collector = collectors.fed_of k (found_by (collectors.asks_of k) w.words); awaited = awaits_behind k (collectors.fed_of k (found_by (collectors.asks_of k) w.words)) (changes_now w) w.awaited }) e ∙ ap (λ (k : CollectorMachine). record w { collector = k }) (sym e)
+rests w party false true k e no_step = refl
+rests w party false false k e no_step = absurd cc
+
+pub turn_of-rests : (w : State) (party : ℕ) → can_step w party ≡ false → turn_of w party ≡ w
+turn_of-rests w party no_step = rests w party (is_collector w party) (is_idle (pass_at w party).machine) w.collector refl no_step
+
+-- the collector's step, and that of a thread that has not ended
+pub turn_of-collects : (w : State) (party : ℕ) → is_collector w party ≡ true → turn_of w party ≡ collector_turn w
+turn_of-collects w party collects = rw collects refl
+
+by_step : (collects idle done : Bool) → collects ≡ false → not (cond collects done idle) ≡ true → idle ≡ false
+by_step true idle done e can = absurd cc
+by_step false true done e can = absurd cc
+by_step false false done e can = refl
+
+-- what a party that can step is: a thread that has not ended, or the collector that has cycles to play
+pub party_is_pass : (w : State) (party : ℕ) → IsParty w.layout party → is_collector w party ≡ false → IsPass w.layout party
+party_is_pass w party is passes = (is.0, ltb-false w.layout.passes party passes)
+
+pub is_running : (w : State) (party : ℕ) → is_collector w party ≡ false → can_step w party ≡ true → is_idle (pass_at w party).machine ≡ false
+is_running w party passes can = by_step (is_collector w party) (is_idle (pass_at w party).machine) (is_done w.collector) passes can
+
+pub turn_of-moves : (w : State) (party : ℕ) → is_collector w party ≡ false → can_step w party ≡ true → turn_of w party ≡ moved w party
+turn_of-moves w party passes can =
+    let on = is_running w party passes can in
+    rw passes (rw on refl)
+
+by_play : (collects idle done : Bool) → collects ≡ true → not (cond collects done idle) ≡ true → done ≡ false
+by_play true idle true e can = absurd cc
+by_play true idle false e can = refl
+by_play false idle done e can = absurd cc
+
+pub is_playing : (w : State) (party : ℕ) → is_collector w party ≡ true → can_step w party ≡ true → is_done w.collector ≡ false
+is_playing w party collects can = by_play (is_collector w party) (is_idle (pass_at w party).machine) (is_done w.collector) collects can
 
 -- ---- turns in an order
 
--- how many steps a turn takes, by whether the party has ended
+-- how many steps a turn takes, by whether the party can step
 abbrev pub count_of : Bool → ℕ
-count_of idle = cond idle 0 1
+count_of can = cond can 1 0
 
-pub count_of-most : (idle : Bool) → count_of idle ≤ 1
+pub count_of-most : (can : Bool) → count_of can ≤ 1
 count_of-most true = omega arith
 count_of-most false = omega arith
 
@@ -72,14 +122,19 @@ pub played-next : (w : State) (parties : List ℕ) (i party : ℕ) → i < lengt
 played-next w parties i party within is = rw (add-one, drop-cons parties i 0 within, is) refl
 
 pub steps_in-next : (w : State) (parties : List ℕ) (i party : ℕ) → i < length parties → get_or parties i 0 ≡ party
-    → steps_in w (drop i parties) ≡ count_of (is_idle (pass_at w party).machine) + steps_in (turn_of w party) (drop (i + 1) parties)
+    → steps_in w (drop i parties) ≡ count_of (can_step w party) + steps_in (turn_of w party) (drop (i + 1) parties)
 steps_in-next w parties i party within is = rw (add-one, drop-cons parties i 0 within, is) refl
 
--- the same by what the turn says
-pub said-took : (idle : Bool) (step found : Step) (turn : Turn) → turn ≡ cond idle turns.Ended (turns.Took step) → turn ≡ turns.Took found → count_of idle ≡ 1
-said-took true step found turn said took = absurd cc
-said-took false step found turn said took = refl
+-- what a turn without a step says
+rest_is : (waits : Bool) (found : Step) → cond waits turns.Idle turns.Ended ≡ turns.Took found → ⊥
+rest_is true found e = cc
+rest_is false found e = cc
 
-pub said-other : (idle : Bool) (step : Step) (turn : Turn) → turn ≡ cond idle turns.Ended (turns.Took step) → ((found : Step) → turn ≢ turns.Took found) → count_of idle ≡ 0
-said-other true step turn said other = refl
-said-other false step turn said other = absurd (other step said)
+-- the same by what the turn says
+pub said-took : (can waits : Bool) (step found : Step) (turn : Turn) → turn ≡ cond can (turns.Took step) (cond waits turns.Idle turns.Ended) → turn ≡ turns.Took found → count_of can ≡ 1
+said-took true waits step found turn said took = refl
+said-took false waits step found turn said took = absurd (rest_is waits found (sym said ∙ took))
+
+pub said-other : (can waits : Bool) (step : Step) (turn : Turn) → turn ≡ cond can (turns.Took step) (cond waits turns.Idle turns.Ended) → ((found : Step) → turn ≢ turns.Took found) → count_of can ≡ 0
+said-other true waits step turn said other = absurd (other step said)
+said-other false waits step turn said other = refl

@@ -1,4 +1,4 @@
--- The parties that have not ended, and runs under a schedule.
+-- The parties that can step, and runs under a schedule.
 use Rattle.std.proofs.Common.{◌≡◌, ℕ, zero, suc, ◌+◌, ◌-◌, ◌<◌, Bool, true, false, List, [], ◌∷◌, ◌++◌, length, cond, eqb, not, refl, sym, ap, ◌∙◌, subst, arith}
 use Rattle.std.specs.Prelude.{Contains}
 use Rattle.std.specs.List.{All, filter, range_with_len}
@@ -6,36 +6,35 @@ use Rattle.std.proofs.lemmas.Bool.Decides.{nat_tests}
 use Rattle.std.proofs.lemmas.List.{map-id, append-nil}
 use Rattle.std.proofs.lemmas.List.Elements.{All-filter, All-contains}
 use Rattle.std.proofs.lemmas.List.FromFn.{length-range_with_len, get_or-range_with_len, filter_of_map_range_with_len_more}
-use Rattle.heap_words.specs.Layouts.{IsPass}
 use Rattle.gc_cycle.specs.declared.schedule.Chooser.{Chooser}
 use Rattle.gc_cycle.specs.Schedules.{chosen_by}
-use Rattle.gc_cycle.specs.Worlds.{State, pass_at, is_idle, turn_of}
+use Rattle.gc_cycle.specs.Worlds.{State, IsParty, can_step, turn_of}
 use Rattle.gc_cycle.specs.Runs.{ready_of, is_none, is_over, turns_of}
 
--- ---- the parties that have not ended
+-- ---- the parties that can step
 
 -- those among the first so many
 abbrev pub ready_among : State → ℕ → List ℕ
-ready_among w n = filter (λ party. not (is_idle (pass_at w party).machine)) (range_with_len 1 n)
+ready_among w n = filter (can_step w) (range_with_len 1 n)
 
-ready_more : (w : State) (n : ℕ) → ready_among w (n + 1) ≡ ready_among w n ++ cond (not (is_idle (pass_at w (n + 1)).machine)) ((n + 1) ∷ []) []
-ready_more w n = rw (map-id, map-id) at (filter_of_map_range_with_len_more (λ party. not (is_idle (pass_at w party).machine)) (λ (x : ℕ). x) 1 n (n + 1) (omega arith))
+ready_more : (w : State) (n : ℕ) → ready_among w (n + 1) ≡ ready_among w n ++ cond (can_step w (n + 1)) ((n + 1) ∷ []) []
+ready_more w n = rw (map-id, map-id) at (filter_of_map_range_with_len_more (can_step w) (λ (x : ℕ). x) 1 n (n + 1) (omega arith))
 
--- one more that has not ended, and one that has
-pub ready_with : (w : State) (n : ℕ) (ready : List ℕ) → ready ≡ ready_among w n → is_idle (pass_at w (n + 1)).machine ≡ false → ready ++ (n + 1) ∷ [] ≡ ready_among w (n + 1)
-ready_with w n ready so_far on = sym (ready_more w n ∙ (rw (on, so_far) refl))
+-- one more that can step, and one that can not
+pub ready_with : (w : State) (n : ℕ) (ready : List ℕ) → ready ≡ ready_among w n → can_step w (n + 1) ≡ true → ready ++ (n + 1) ∷ [] ≡ ready_among w (n + 1)
+ready_with w n ready so_far can = sym (ready_more w n ∙ (rw (can, so_far) refl))
 
-pub ready_without : (w : State) (n : ℕ) (ready : List ℕ) → ready ≡ ready_among w n → is_idle (pass_at w (n + 1)).machine ≡ true → ready ≡ ready_among w (n + 1)
-ready_without w n ready so_far ended = so_far ∙ sym (ready_more w n ∙ (rw ended (append-nil (ready_among w n))))
+pub ready_without : (w : State) (n : ℕ) (ready : List ℕ) → ready ≡ ready_among w n → can_step w (n + 1) ≡ false → ready ≡ ready_among w (n + 1)
+ready_without w n ready so_far rests = so_far ∙ sym (ready_more w n ∙ (rw rests (append-nil (ready_among w n))))
 
--- each of them is a pass
-pub ready_is_pass : (w : State) (party : ℕ) → length w.passes ≡ w.layout.passes → Contains (ready_of w) party → IsPass w.layout party
-ready_is_pass w party passes among =
-    let test : ℕ → Bool = λ party. not (is_idle (pass_at w party).machine) in
-    let numbers : All (IsPass w.layout) (range_with_len 1 (length w.passes)) = λ i d within.
-    let below : i < length w.passes = omega (arith, within, length-range_with_len 1 (length w.passes)) in
-    subst (IsPass w.layout) (sym (get_or-range_with_len 1 (length w.passes) i d below)) (omega arith, omega (arith, below, passes)) in
-    All-contains (IsPass w.layout) (ready_of w) party (All-filter test (IsPass w.layout) (range_with_len 1 (length w.passes)) numbers) among
+-- each of them is a party
+pub ready_is_party : (w : State) (party : ℕ) → Contains (ready_of w) party → IsParty w.layout party
+ready_is_party w party among =
+    let n = w.layout.passes + 1 in
+    let numbers : All (IsParty w.layout) (range_with_len 1 n) = λ i d within.
+    let below : i < n = omega (arith, within, length-range_with_len 1 n) in
+    subst (IsParty w.layout) (sym (get_or-range_with_len 1 n i d below)) (omega arith, omega (arith, below)) in
+    All-contains (IsParty w.layout) (ready_of w) party (All-filter (can_step w) (IsParty w.layout) (range_with_len 1 n) numbers) among
 
 -- ---- runs
 

@@ -1,5 +1,5 @@
 -- The passes of a world at its start, one after another.
-use Rattle.std.proofs.Common.{◌≡◌, ℕ, ◌+◌, ◌-◌, ◌<◌, ◌≤◌, List, [], ◌∷◌, ◌++◌, length, take, get_or, refl, sym, ap, subst, arith, lit<, lit≤, length-take-le}
+use Rattle.std.proofs.Common.{◌≡◌, ℕ, ◌+◌, ◌-◌, ◌<◌, ◌≤◌, List, [], ◌∷◌, ◌++◌, length, take, get_or, refl, sym, ap, ◌∙◌, subst, arith, lit<, lit≤, length-take-le}
 use Rattle.std.specs.Prelude.{◌^◌, IsSome}
 use Rattle.std.specs.List.{All}
 use Rattle.std.proofs.lemmas.List.{take_more}
@@ -35,7 +35,9 @@ push_pass l lists n now later within so_far pushed =
     let count : 1 + length (take n lists) ≡ n + 1 = omega (arith, length-take-le n lists (omega arith)) in
     let more : opening_passes l 1 (take n lists ++ get_or lists n [] ∷ []) ≡ opening_passes l 1 (take n lists) ++ opening_pass l (get_or lists n []) (n + 1) ∷ [] =
     opening_passes-more l 1 (n + 1) (take n lists) (get_or lists n []) count in
-    rw (pushed, so_far, place, taken, more) refl
+    let one : now ++ opening_pass l (commands_at lists (n + 1)) (n + 1) ∷ [] ≡ now ++ opening_pass l (get_or lists n []) (n + 1) ∷ [] =
+    ap (λ (k : ℕ). now ++ opening_pass l (get_or lists k []) (n + 1) ∷ []) place in
+    pushed ∙ (one ∙ (ap (λ (ps : List PassRecord). ps ++ opening_pass l (get_or lists n []) (n + 1) ∷ []) so_far ∙ (sym more ∙ ap (opening_passes l 1) (sym taken))))
 
 -- ---- a pass at the start is ready
 
@@ -65,4 +67,4 @@ pub few_commands : (n : ℕ) (lines : List Line) → length lines ≤ 65536 → 
 few_commands n lines few = omega (arith, total-commands_by n lines, few)
 
 pub lawful_at_start : (s : Reading) → Fits s → ((t : ℕ) → IsPass s.layout t → rooms_of (commands_of t s.lines) ≤ 64) → (w : State) → w ≡ opening_state s → Lawful w
-lawful_at_start s fits rooms w is = subst Lawful (sym is) (opening_lawful s (script_of s fits rooms))
+lawful_at_start s fits rooms w is = subst Lawful (sym is) (opening_lawful s (script_of s fits rooms) fits.cycles)

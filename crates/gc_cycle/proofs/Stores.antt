@@ -1,11 +1,14 @@
 -- Turns that put a word in a field: it is written, or an exchange of it wins.
+use Rattle.gc_cycle.proofs.Heard.{heard_next}
+use Rattle.gc_cycle.proofs.Going.{handshake_low, put_same, root_before}
+use Rattle.handshakes.specs.declared.phase_word.Phase.{Phase}
 use Rattle.std.proofs.Common.{◌≡◌, ◌≢◌, ℕ, ◌+◌, ◌*◌, ◌-◌, ◌<◌, ◌≤◌, ◌==◌, List, length, set, map, cond, Bool, true, Some, refl, sym, ap, ◌∙◌, subst, arith, inl, inr}
 use Rattle.std.proofs.lemmas.Bool.{eqb-true}
 use Rattle.std.proofs.lemmas.Bool.Decides.{eqb_tells}
 use Rattle.std.proofs.lemmas.List.{map-set}
 use Rattle.std.proofs.Math.Nat.{mul-le-mul_right}
 use prog.Atomic.{either}
-use Rattle.heap_words.specs.Layouts.{Sizes, IsPass, IsLayout, region_at, regions_of, first_word}
+use Rattle.heap_words.specs.Layouts.{Sizes, IsPass, IsLayout, region_at, regions_of, first_word, root_at}
 use Rattle.heap_words.specs.FieldWords.{word_of, is_same_value}
 use Rattle.heap_words.specs.declared.operand.Operand.{Operand}
 use Rattle.heap_words.specs.declared.field_word.FieldWord.{FieldWord}
@@ -44,7 +47,7 @@ use Rattle.gc_cycle.specs.Objects.{View, Laid, Holds, AllHold, Agrees, IsFresh, 
 use Rattle.gc_cycle.specs.Tellings.{changes_of, heap_of}
 use Rattle.gc_cycle.specs.Commands.{commands_at}
 use Rattle.gc_cycle.specs.Worlds.{State, pass_at, answers_at, concluded, moved_by}
-use Rattle.gc_cycle.specs.Lawful.{Lawful, IsThread, IsCommand, IsSpotOf, IsWriteAt, IsSwapAt, made_of, used_of}
+use Rattle.gc_cycle.specs.Lawful.{Lawful, IsThread, IsCommand, IsSpotOf, IsWriteAt, IsSwapAt, made_of, used_of, acked_of, announced_in}
 use Rattle.gc_cycle.proofs.Tellings.{tells_change, next_change, told_push, heap_of-change}
 use Rattle.gc_cycle.proofs.Views.{with_fields, fields_here, fields_there, laid_store, laid_ext, len_same, all_hold_store, all_hold_of, object_ext}
 use Rattle.gc_cycle.proofs.Frames.{Onward, made_same, used_same}
@@ -122,7 +125,7 @@ module _ (w : State) (lw : Lawful w) (p : ℕ) (is : IsPass w.layout p) where
   abbrev made : ℕ → ℕ
   made = made_of w
 
-  abbrev thread : IsThread l m lw.view made w.told.log p cs (answers_at w p) r
+  abbrev thread : IsThread l m lw.view made w.told.log (announced_in w) p cs (answers_at w p) r
   thread = lw.threads p is
 
   abbrev seat : allowed.Seat
@@ -157,15 +160,18 @@ module _ (w : State) (lw : Lawful w) (p : ℕ) (is : IsPass w.layout p) where
     lens : (b : ℕ) → len_of view b ≡ len_of lw.view b
     lens = len_same m (reading words) l lw.script.layout (used_of w) made lw.view lw.laid spot.birth spot.field x object small put_there
 
+    low_stays : (a : ℕ) → a < region_at l 0 → reading words a ≡ m a
+    low_stays a low = put.elsewhere a (λ e. omega (arith, e, low, above))
+
     region_stays : (q : ℕ) → IsPass l q → reading words (region_at l (first_own l q)) ≡ m (region_at l (first_own l q))
     region_stays q other = put.elsewhere _ (region_apart q spot.place other above)
 
     pub stores : (c : Command) (at : IsCommand cs count c) (a : Answer) (call : Call) (k : PassMachine)
         → allowed.call_of p seat c a ≡ Some call → allowed.IsNumbered p seat a → is_change (allowed.reply_of a) ≡ true → allowed.reply_of a ≢ replies.NotThere → pass_of call ≡ p
         → answer (heap_of w.told.log) call ≡ allowed.reply_of a → changed (heap_of w.told.log) call (allowed.reply_of a) ≡ write_in (heap_of w.told.log) spot.birth spot.field (value_of x)
-        → allowed.registers_after seat c a ≡ seat.registers → length (allowed.lens_after seat c a) ≡ r.made → looks.IsUnclaimedYet w lw p is
+        → allowed.registers_after seat c a ≡ seat.registers → length (allowed.lens_after seat c a) ≡ r.made → looks.IsUnclaimedYet w lw p is → looks.Runs w lw p is
         → Lawful (concluded (record w { words = words }) p (record r { machine = k; seen = front + 1 }) a (Some (record { call = call; reply = allowed.reply_of a; front = front + 1 })))
-    stores c at a call k call_is numbered change there own said writes regs counted unclaimed =
+    stores c at a call k call_is numbered change there own said writes regs counted unclaimed runs =
         let e : Ended = record { call = call; reply = allowed.reply_of a; front = front + 1 } in
         let y : PassRecord = record r { machine = k; seen = front + 1 } in
         let nx = going.after w lw p is words c at a (Some e) y in
@@ -174,14 +180,14 @@ module _ (w : State) (lw : Lawful w) (p : ℕ) (is : IsPass w.layout p) where
         let heap = heap_of w.told.log in
         let heap_is = heap_of-change w.told.log e change ∙ ap (changed heap call) said ∙ writes in
         let now : (b : ℕ) → IsObject l made b → IsObject l (made_of nx) b = object_ext l made (made_of nx) makes in
-        let on : Onward l p m (reading words) made (made_of nx) lw.view view = record { objects = now; at = λ b there. refl; lens = λ b there. lens b; regions = λ q other apart. region_stays q other } in
-        going.after_answer w lw p is words c at a (Some e) y width (put.elsewhere 0 (λ g. omega (arith, g, above)) ∙ lw.phase) own
-        (told_push w.told.log e lw.told (next_change w.told.log call (allowed.reply_of a) change said there)) view
+        let on : Onward l p m (reading words) made (made_of nx) lw.view view = record { objects = now; at = λ b there. refl; lens = λ b there. lens b; regions = λ q other apart. region_stays q other; roots = λ q other apart i within. low_stays (root_at l q i) (root_before l q i other within) } in
+        going.after_answer w lw p is words c at a (Some e) y width (acked_of w) (put_same (acked_of w) p) (handshake_low w lw p is words low_stays) own
+        (heard_next w.told.log e lw.told (next_change w.told.log call (allowed.reply_of a) change said there)) view
         (laid_ext (reading words) l (used_of w) made (used_of nx) (made_of nx) view uses makes laid_now)
         (all_hold_ext l made (made_of nx) makes view (all_hold_store l made lw.view lw.fields spot.birth spot.field x object holds))
         (subst (Agrees l (made_of nx) view) (sym heap_is) (agrees_ext l made (made_of nx) makes view _ (agrees_store l made lw.view heap lw.agrees spot.birth spot.field x object)))
         (subst (IsFresh l (made_of nx)) (sym heap_is) (fresh_ext l made (made_of nx) makes _ (fresh_store l made lw.view heap lw.agrees spot.birth spot.field x object lw.fresh)))
-        on refl thread.eight (all_hold_of l made (made_of nx) lw.view view now (λ b there. refl) r.registers thread.registers)
+        on thread.number thread.unmarked runs thread.eight (all_hold_of l made (made_of nx) lw.view view now (λ b there. refl) r.registers thread.registers)
         (tells_change l.quota p r.made r.seen r.registers cs (answers_at w p) w.told.log thread.tells c at a call r.made r.registers call_is numbered change own said (regs ∙ thread.tells.registers_are) counted)
         thread.room (omega arith) (omega arith) (λ free. region_stays p is ∙ unclaimed free)
 
@@ -190,8 +196,10 @@ module _ (w : State) (lw : Lawful w) (p : ℕ) (is : IsPass w.layout p) where
   abbrev write_call : ℕ → ℕ → Operand → Call
   write_call obj f what = calls.Write r.view.pass (named (held r.registers obj)) f (value_of (meant r.registers what))
 
-  pub puts : (spot : Spot) (word : ℕ) → IsWriteAt r.registers cs count spot word → spot.field < len_of lw.view spot.birth → looks.IsUnclaimedYet w lw p is → Lawful (moved_by w p (machine.Write (write.Field spot word)))
-  puts spot word g small unclaimed =
+  pub puts : (spot : Spot) (word : ℕ) → IsWriteAt r.registers cs count spot word × (spot.field < len_of lw.view spot.birth) → looks.IsUnclaimedYet w lw p is → looks.Runs w lw p is → Lawful (moved_by w p (machine.Write (write.Field spot word)))
+  puts spot word at unclaimed runs =
+      let g = at.0 in
+      let small = at.1 in
       let c = commands.Put g.obj spot.field g.what in
       let x = meant r.registers g.what in
       let call = write_call g.obj spot.field g.what in
@@ -205,15 +213,15 @@ module _ (w : State) (lw : Lawful w) (p : ℕ) (is : IsPass w.layout p) where
       let call_is : allowed.call_of p seat c answers.Ok ≡ Some call =
       ap (λ v. allowed.on_object v (λ birth. calls.Write p birth spot.field (allowed.value_of seat g.what))) (places.seat_held w lw p is g.obj _ g.spot_is.0)
       ∙ ap (λ birth. Some (calls.Write p birth spot.field (allowed.value_of seat g.what))) (sym name)
-      ∙ ap (λ q. Some (calls.Write q (named (held r.registers g.obj)) spot.field (allowed.value_of seat g.what))) (sym (looks.own_pass w lw p is))
+      ∙ ap (λ q. Some (calls.Write q (named (held r.registers g.obj)) spot.field (allowed.value_of seat g.what))) (sym thread.number)
       ∙ ap (λ v. Some (calls.Write r.view.pass (named (held r.registers g.obj)) spot.field v)) (places.meant_value w lw p is g.what) in
       let ok : is_there heap (value_of x) ≡ true = places.there w lw p is x holds in
       let said : answer heap call ≡ replies.Wrote =
       ap (λ b. cond b (wrote (value_in heap (named (held r.registers g.obj)) spot.field)) replies.NotThere) ok
       ∙ ap (λ birth. wrote (value_in heap birth spot.field)) name ∙ ap wrote (places.heap_value w lw p is g.obj spot g.spot_is small) in
-      looks.settled_so w lw p is words (machine.Write (write.Ended write_end.Wrote)) c g.command
+      looks.settled_so w lw p is words r.seen (machine.Write (write.Ended write_end.Wrote)) c g.command
       (stores words (length-applied (Store spot.place word) w.words) g.obj spot g.spot_is small x holds put c g.command answers.Ok call (machine.Write (write.Ended write_end.Wrote))
-      call_is tt refl (λ e. cc) (looks.own_pass w lw p is) said (ap (λ birth. write_in heap birth spot.field (value_of x)) name) refl thread.tells.lens_are unclaimed)
+      call_is tt refl (λ e. cc) thread.number said (ap (λ birth. write_in heap birth spot.field (value_of x)) name) refl thread.tells.lens_are unclaimed runs)
 
   -- ---- an exchange wins: the field is written
 
@@ -222,9 +230,12 @@ module _ (w : State) (lw : Lawful w) (p : ℕ) (is : IsPass w.layout p) where
       let words = applied (Exchange at want put) w.words in
       subst (λ (y : ℕ). Put m (reading words) at y) (ap (λ b. either b put (m at)) won) (applied-puts (Exchange at want put) w.words (λ e. cc) inside)
 
-  pub wins : (spot : Spot) (swap : Swap) (wanted : ℕ) (tries : TriesLeft) → IsSwapAt r.registers cs count spot swap → spot.field < len_of lw.view spot.birth → is_expected swap wanted ≡ true → looks.IsUnclaimedYet w lw p is
-      → (m swap.place == wanted) ≡ true → Lawful (moved_by w p (machine.Exchange (exchange.Field spot (plain.Try swap wanted tries))))
-  wins spot swap wanted tries at small expected unclaimed won =
+  pub wins : (spot : Spot) (phase : Phase) (swap : Swap) (wanted : ℕ) (tries : TriesLeft) → looks.IsTryAt w lw p is spot phase swap wanted → looks.IsUnclaimedYet w lw p is → looks.Runs w lw p is
+      → (m swap.place == wanted) ≡ true → Lawful (moved_by w p (machine.Exchange (exchange.Field spot phase (plain.Try swap wanted tries))))
+  wins spot phase swap wanted tries try unclaimed runs won =
+      let at = try.0 in
+      let small = try.1 in
+      let expected = try.3 in
       let g = at.0 in
       let c = commands.Cas g.dst g.obj spot.field g.expects g.what in
       let x = meant r.registers g.what in
@@ -238,10 +249,9 @@ module _ (w : State) (lw : Lawful w) (p : ℕ) (is : IsPass w.layout p) where
       let name : named (held r.registers g.obj) ≡ spot.birth = ap named g.spot_is.0 in
       let same : is_same_value swap.expected (places.content w lw p is spot) ≡ true =
       ap (is_same_value swap.expected) (sym (looks.swap_content w lw p is spot swap at small)) ∙ ap (is_expected swap) (eqb-true (m swap.place) wanted won) ∙ expected in
-      let ended = machine.Exchange (exchange.Field spot (plain.Ended exchange_end.Done)) in
-      let done = looks.settled_so w lw p is words ended c g.command
+      let ended = machine.Exchange (exchange.Ended exchange_end.Done) in
+      let done = looks.settled_so w lw p is words r.seen ended c g.command
       (stores words (length-applied (Exchange swap.place wanted swap.word) w.words) g.obj spot g.spot_is small x holds put c g.command answers.Done call ended
-      (looks.exchange_is w lw p is g.obj spot.field g.expects g.what spot g.spot_is) tt refl (λ e. cc) (looks.own_pass w lw p is)
-      (looks.exchange_said w lw p is spot swap.expected swap.word g small true same) (ap (λ birth. write_in heap birth spot.field (value_of x)) name) refl thread.tells.lens_are unclaimed) in
-      let P : Bool → Type 0 = λ b. Lawful (looks.settled w lw p is words (machine.Exchange (exchange.Field spot (cond b (plain.Ended exchange_end.Done) (lost swap wanted tries (m swap.place)))))) in
-      subst P (sym won) done
+      (looks.exchange_is w lw p is g.obj spot.field g.expects g.what spot.birth spot.at g.spot_is.0) tt refl (λ e. cc) thread.number
+      (looks.exchange_said w lw p is spot swap.expected swap.word g small true same) (ap (λ birth. write_in heap birth spot.field (value_of x)) name) refl thread.tells.lens_are unclaimed runs) in
+      rw won (rw won at done)

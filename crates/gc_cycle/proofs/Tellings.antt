@@ -7,7 +7,7 @@ use Rattle.std.specs.BTreeMap.{is_at}
 use Rattle.std.specs.List.{filter, All}
 use Rattle.std.proofs.Math.Seq.{take-length, drop-length}
 use Rattle.std.proofs.lemmas.Bool.{cases_eq, eq-eqb, ne_eqb, true≢false, false≢true}
-use Rattle.std.proofs.lemmas.List.{append-nil, map-append, drop-append-le, length-set}
+use Rattle.std.proofs.lemmas.List.{append-nil, map-append, drop-append-le, drop-drop, take-append-drop, length-set}
 use Rattle.std.proofs.lemmas.List.Elements.{filter-append, All-map, All-filter}
 use Rattle.std.proofs.lemmas.Option.{same_Some}
 use Rattle.heap_words.specs.declared.field_word.FieldWord.{FieldWord}
@@ -111,15 +111,29 @@ made_behind thread n history call within rest =
     ∙ made_by-append thread (drop n history) (call ∷ [])
     ∙ ap (λ before. before ++ made_by thread (call ∷ [])) rest
 
--- a look at the heap as it is
-IsNext-look_behind : (history : List Call) (thread n : ℕ) (call : Call) (reply : Reply) → n ≤ length history → made_by thread (drop n history) ≡ [] → is_change reply ≡ false → answer (heap_after opening history) call ≡ reply
-    → IsNext history thread n (record { call = call; reply = reply; front = length history })
-IsNext-look_behind history thread n call reply within rest look told = record {
-  later = within;
-  within = omega arith;
-  own = ap (made_by thread) (between_all n history) ∙ rest ∙ sym (ap (λ change. if change then call ∷ [] else []) look);
+nil_append : (xs ys : List Call) → xs ++ ys ≡ [] → (xs ≡ []) × (ys ≡ [])
+nil_append [] ys none = (refl, none)
+nil_append (x ∷ xs) ys none = absurd cc
+
+-- where it made none of some changes, it made none of the first k, and none of the others
+none_parts : (thread k : ℕ) (calls : List Call) → made_by thread calls ≡ [] → (made_by thread (take k calls) ≡ []) × (made_by thread (drop k calls) ≡ [])
+none_parts thread k calls none = nil_append _ _ (sym (made_by-append thread (take k calls) (drop k calls)) ∙ ap (made_by thread) (take-append-drop k calls) ∙ none)
+
+-- where it made none behind the first n, it made none behind more
+none_later : (thread n m : ℕ) (history : List Call) → n ≤ m → made_by thread (drop n history) ≡ [] → made_by thread (drop m history) ≡ []
+none_later thread n m history before none =
+    let more : n + (m - n) ≡ m = omega (arith, before) in
+    ap (λ k. made_by thread (drop k history)) (sym more) ∙ ap (made_by thread) (sym (drop-drop (m - n) n history)) ∙ (none_parts thread (m - n) (drop n history) none).1
+
+-- a look at the heap after so many changes
+IsNext-look_at : (history : List Call) (thread n front : ℕ) (call : Call) (reply : Reply) → n ≤ front → front ≤ length history → made_by thread (drop n history) ≡ [] → is_change reply ≡ false → answer (heap_at history front) call ≡ reply
+    → IsNext history thread n (record { call = call; reply = reply; front = front })
+IsNext-look_at history thread n front call reply later within rest look told = record {
+  later = later;
+  within = within;
+  own = (none_parts thread (front - n) (drop n history) rest).0 ∙ sym (ap (λ change. if change then call ∷ [] else []) look);
   last = λ change. absurd (true≢false (sym change ∙ look));
-  reply = ap (λ n. answer (heap_at history n) call) (ap (λ change. if change then length history - 1 else length history) look) ∙ ap (λ heap. answer heap call) (heap_at-length history) ∙ told;
+  reply = ap (λ n. answer (heap_at history n) call) (ap (λ change. if change then front - 1 else front) look) ∙ told;
 }
 
 -- a change behind all others
@@ -217,10 +231,10 @@ foreign_call thread log e foreign =
 
 -- ---- one command told
 
--- how many changes a thread has seen is how many its seat has
+-- its seat has seen no more changes than there are
 pub seat_within : (quota thread made seen : ℕ) (registers : List FieldWord) (commands : List Command) (answers : List Answer) (log : List Ended) (t : Tells quota thread made seen registers commands answers log)
     → t.seat.seen ≤ length (changes_of log)
-seat_within quota thread made seen registers commands answers log t = omega (arith, t.seen_is, t.seen_before)
+seat_within quota thread made seen registers commands answers log t = omega (arith, t.seen_grows, t.seen_before)
 
 module _ (quota thread made seen : ℕ) (registers : List FieldWord) (commands : List Command) (answers : List Answer) (log : List Ended) (t : Tells quota thread made seen registers commands answers log)
     (c : Command) (at : slice_get commands (length answers) ≡ Some c) (a : Answer) where
@@ -228,11 +242,11 @@ module _ (quota thread made seen : ℕ) (registers : List FieldWord) (commands :
   abbrev h : List Call
   h = changes_of log
 
-  told : (made' front : ℕ) (registers' : List FieldWord) (log' : List Ended) (more : List Call) → changes_of log' ≡ h ++ more → of_pass thread log' ≡ of_pass thread log ++ ended_with (call_of thread t.seat c a) a front
-      → IsAnswered quota thread (h ++ more) t.seat c a front → front ≤ length (h ++ more) → made_by thread (drop front (h ++ more)) ≡ []
+  told : (made' front seen' : ℕ) (registers' : List FieldWord) (log' : List Ended) (more : List Call) → changes_of log' ≡ h ++ more → of_pass thread log' ≡ of_pass thread log ++ ended_with (call_of thread t.seat c a) a front
+      → IsAnswered quota thread (h ++ more) t.seat c a front → front ≤ seen' → seen' ≤ length (h ++ more) → made_by thread (drop front (h ++ more)) ≡ []
       → registers_after t.seat c a ≡ map value_of registers' → length (lens_after t.seat c a) ≡ made'
-      → Tells quota thread made' front registers' commands (answers ++ a ∷ []) log'
-  told made' front registers' log' more same calls answered within rest regs lens =
+      → Tells quota thread made' seen' registers' commands (answers ++ a ∷ []) log'
+  told made' front seen' registers' log' more same calls answered grows within rest regs lens =
       let so_far = take (length answers) commands in
       let cs : take (length (answers ++ a ∷ [])) commands ≡ so_far ++ c ∷ [] = commands_push commands answers c a at in
       let grown = run_grows quota thread h more first_seat so_far answers t.fronts t.seat (omega arith) t.run in
@@ -250,7 +264,7 @@ module _ (quota thread made seen : ℕ) (registers : List FieldWord) (commands :
             ∙ sym (ended_push quota thread h first_seat so_far answers t.fronts t.seat c a front t.run)
             ∙ ap (λ xs. ended_in thread first_seat xs (answers ++ a ∷ []) fronts) (sym cs);
         registers_are = regs;
-        seen_is = refl;
+        seen_grows = grows;
         seen_before = omega (arith, within, ap length same);
         lens_are = lens;
         rest = ap (λ x. made_by thread (drop front x)) same ∙ rest;
@@ -260,32 +274,31 @@ module _ (quota thread made seen : ℕ) (registers : List FieldWord) (commands :
   pub tells_none : (registers' : List FieldWord) → call_of thread t.seat c a ≡ None → IsNoCall quota (heap_at h t.seat.seen) t.seat c a → registers_after t.seat c a ≡ map value_of registers' → length (lens_after t.seat c a) ≡ made
       → Tells quota thread made seen registers' commands (answers ++ a ∷ []) log
   tells_none registers' none no_call regs lens =
-      let Q : Option Call → Type 0 = λ o. IsOutcome quota thread h t.seat c a seen o in
-      let answered : IsAnswered quota thread h t.seat c a seen = subst Q (sym none) (sym t.seen_is, no_call) in
-      let R : List Call → Type 0 = λ x. IsAnswered quota thread x t.seat c a seen in
+      let front = t.seat.seen in
+      let Q : Option Call → Type 0 = λ o. IsOutcome quota thread h t.seat c a front o in
+      let answered : IsAnswered quota thread h t.seat c a front = subst Q (sym none) (refl, no_call) in
+      let R : List Call → Type 0 = λ x. IsAnswered quota thread x t.seat c a front in
       let same : h ≡ h ++ [] = sym (append-nil h) in
-      let calls : of_pass thread log ≡ of_pass thread log ++ ended_with (call_of thread t.seat c a) a seen =
-      sym (append-nil (of_pass thread log)) ∙ ap (λ o. of_pass thread log ++ ended_with o a seen) (sym none) in
-      told made seen registers' log [] same calls (subst R same answered) (omega (arith, t.seen_before, ap length same)) (ap (λ x. made_by thread (drop seen x)) (append-nil h) ∙ t.rest) regs lens
+      let calls : of_pass thread log ≡ of_pass thread log ++ ended_with (call_of thread t.seat c a) a front =
+      sym (append-nil (of_pass thread log)) ∙ ap (λ o. of_pass thread log ++ ended_with o a front) (sym none) in
+      told made front seen registers' log [] same calls (subst R same answered) t.seen_grows (omega (arith, t.seen_before, ap length same)) (ap (λ x. made_by thread (drop front x)) (append-nil h) ∙ t.rest) regs lens
 
   -- the calls of the thread with that of the command
   own_calls : (call : Call) (front : ℕ) → call_of thread t.seat c a ≡ Some call → pass_of call ≡ thread
       → of_pass thread (log ++ record { call = call; reply = reply_of a; front = front } ∷ []) ≡ of_pass thread log ++ ended_with (call_of thread t.seat c a) a front
   own_calls call front some own = own_call thread log (record { call = call; reply = reply_of a; front = front }) own ∙ ap (λ o. of_pass thread log ++ ended_with o a front) (sym some)
 
-  -- The command was a look. The thread has then seen all changes.
-  pub tells_look : (call : Call) (registers' : List FieldWord) → call_of thread t.seat c a ≡ Some call → IsNumbered thread t.seat a → is_change (reply_of a) ≡ false → pass_of call ≡ thread
-      → answer (heap_of log) call ≡ reply_of a → registers_after t.seat c a ≡ map value_of registers' → length (lens_after t.seat c a) ≡ made
-      → Tells quota thread made (length (changes_of log)) registers' commands (answers ++ a ∷ []) (log ++ record { call = call; reply = reply_of a; front = length (changes_of log) } ∷ [])
-  tells_look call registers' some numbered look own said regs lens =
-      let Q : Option Call → Type 0 = λ o. IsOutcome quota thread h t.seat c a (length h) o in
-      let N : ℕ → Type 0 = λ n. IsNext h thread n (record { call = call; reply = reply_of a; front = length h }) in
-      let answered : IsAnswered quota thread h t.seat c a (length h) =
-      subst Q (sym some) (numbered, subst N (sym t.seen_is) (IsNext-look_behind h thread seen call (reply_of a) t.seen_before t.rest look said)) in
-      let R : List Call → Type 0 = λ x. IsAnswered quota thread x t.seat c a (length h) in
+  -- The command was a look, which saw the heap after so many changes. The thread has then seen these.
+  pub tells_look : (call : Call) (front : ℕ) (registers' : List FieldWord) → call_of thread t.seat c a ≡ Some call → IsNumbered thread t.seat a → is_change (reply_of a) ≡ false → pass_of call ≡ thread → t.seat.seen ≤ front → front ≤ length (changes_of log)
+      → answer (heap_at (changes_of log) front) call ≡ reply_of a → registers_after t.seat c a ≡ map value_of registers' → length (lens_after t.seat c a) ≡ made
+      → Tells quota thread made front registers' commands (answers ++ a ∷ []) (log ++ record { call = call; reply = reply_of a; front = front } ∷ [])
+  tells_look call front registers' some numbered look own later within said regs lens =
+      let Q : Option Call → Type 0 = λ o. IsOutcome quota thread h t.seat c a front o in
+      let answered : IsAnswered quota thread h t.seat c a front = subst Q (sym some) (numbered, IsNext-look_at h thread t.seat.seen front call (reply_of a) later within t.rest look said) in
+      let R : List Call → Type 0 = λ x. IsAnswered quota thread x t.seat c a front in
       let all : h ≡ h ++ [] = sym (append-nil h) in
-      let same : changes_of (log ++ record { call = call; reply = reply_of a; front = length h } ∷ []) ≡ h ++ [] = changes_of-look log (record { call = call; reply = reply_of a; front = length h }) look ∙ all in
-      told made (length h) registers' _ [] same (own_calls call (length h) some own) (subst R all answered) (omega (arith, ap length all)) (ap (λ x. made_by thread (drop (length h) x)) (append-nil h) ∙ ap (made_by thread) (drop-length h)) regs lens
+      let same : changes_of (log ++ record { call = call; reply = reply_of a; front = front } ∷ []) ≡ h ++ [] = changes_of-look log (record { call = call; reply = reply_of a; front = front }) look ∙ all in
+      told made front front registers' _ [] same (own_calls call front some own) (subst R all answered) (omega arith) (omega (arith, within, ap length all)) (ap (λ x. made_by thread (drop front x)) (append-nil h) ∙ none_later thread t.seat.seen front h later t.rest) regs lens
 
   -- the command was a change
   pub tells_change : (call : Call) (made' : ℕ) (registers' : List FieldWord) → call_of thread t.seat c a ≡ Some call → IsNumbered thread t.seat a → is_change (reply_of a) ≡ true → pass_of call ≡ thread
@@ -294,12 +307,12 @@ module _ (quota thread made seen : ℕ) (registers : List FieldWord) (commands :
   tells_change call made' registers' some numbered change own said regs lens =
       let front = length h + 1 in
       let Q : Option Call → Type 0 = λ o. IsOutcome quota thread (h ++ call ∷ []) t.seat c a front o in
-      let N : ℕ → Type 0 = λ n. IsNext (h ++ call ∷ []) thread n (record { call = call; reply = reply_of a; front = front }) in
+      let before : t.seat.seen ≤ length h = omega (arith, t.seen_grows, t.seen_before) in
       let answered : IsAnswered quota thread (h ++ call ∷ []) t.seat c a front =
-      subst Q (sym some) (numbered, subst N (sym t.seen_is) (IsNext-change_behind h thread seen call (reply_of a) t.seen_before t.rest change own said)) in
+      subst Q (sym some) (numbered, IsNext-change_behind h thread t.seat.seen call (reply_of a) before t.rest change own said) in
       let len : length (h ++ call ∷ []) ≡ front = length-append h (call ∷ []) in
       let same = changes_of-change log (record { call = call; reply = reply_of a; front = front }) change in
-      told made' front registers' _ (call ∷ []) same (own_calls call front some own) answered (omega (arith, len)) (ap (λ k. made_by thread (drop k (h ++ call ∷ []))) (sym len) ∙ ap (made_by thread) (drop-length (h ++ call ∷ []))) regs lens
+      told made' front front registers' _ (call ∷ []) same (own_calls call front some own) answered (omega arith) (omega (arith, len)) (ap (λ k. made_by thread (drop k (h ++ call ∷ []))) (sym len) ∙ ap (made_by thread) (drop-length (h ++ call ∷ []))) regs lens
 
 -- ---- a call of another thread
 
@@ -321,10 +334,10 @@ tells_other quota thread made seen registers commands answers log e foreign t =
       run = subst Q (sym same) (run_grows quota thread (changes_of log) more first_seat (take (length answers) commands) answers t.fronts t.seat (omega arith) t.run);
       calls_are = foreign_call thread log e foreign ∙ t.calls_are;
       registers_are = t.registers_are;
-      seen_is = t.seen_is;
+      seen_grows = t.seen_grows;
       seen_before = omega (arith, t.seen_before, ap length same, length-append (changes_of log) more);
       lens_are = t.lens_are;
-      rest = foreign_rest thread seen log e (is_change e.reply) refl t.seen_before t.rest foreign;
+      rest = foreign_rest thread t.seat.seen log e (is_change e.reply) refl (seat_within quota thread made seen registers commands answers log t) t.rest foreign;
     }
 
 -- ---- at the start, and where all is answered
@@ -336,7 +349,7 @@ tells_opening quota thread registers commands same = record {
   run = refl;
   calls_are = refl;
   registers_are = sym same;
-  seen_is = refl;
+  seen_grows = omega arith;
   seen_before = omega arith;
   lens_are = refl;
   rest = refl;
@@ -349,7 +362,7 @@ tells_allowed_so_far quota thread made seen registers commands answers log t = r
   fronts = t.fronts;
   last = t.seat;
   run = t.run;
-  rest = ap (λ k. made_by thread (drop k (changes_of log))) t.seen_is ∙ t.rest;
+  rest = t.rest;
 }
 
 -- and all of them at the end
@@ -654,7 +667,7 @@ module _ (quota thread made seen : ℕ) (registers : List FieldWord) (commands :
   pub named_len : (obj birth k : ℕ) → held t.seat obj ≡ Object birth → option_map length (fields_of (heap_of log) birth) ≡ Some k → option_map length (fields_of (heap_at (changes_of log) t.seat.seen) birth) ≡ Some k
   named_len obj birth k is now =
       let h = changes_of log in
-      fields_len_was h t.seat.seen (length h) birth k (omega (arith, t.seen_is, t.seen_before)) (named_there obj birth is) (ap (λ heap. option_map length (fields_of heap birth)) (heap_at-length h) ∙ now)
+      fields_len_was h t.seat.seen (length h) birth k (omega (arith, t.seen_grows, t.seen_before)) (named_there obj birth is) (ap (λ heap. option_map length (fields_of heap birth)) (heap_at-length h) ∙ now)
 
   -- so what the heap refuses now it refused then
   pub no_call_seen : (c : Command) (a : Answer) → IsNoCall quota (heap_of log) t.seat c a → IsNoCall quota (heap_at (changes_of log) t.seat.seen) t.seat c a
@@ -688,8 +701,7 @@ run_follows quota thread h s (d ∷ cs) (b ∷ answers) (m ∷ ns) last r rest =
 pub tells_follows : (quota thread made seen : ℕ) (registers : List FieldWord) (commands : List Command) (answers : List Answer) (log : List Ended) → Tells quota thread made seen registers commands answers log → Follows (changes_of log) thread 0 (of_pass thread log)
 tells_follows quota thread made seen registers commands answers log t =
     let P : List Ended → Type 0 = λ es. Follows (changes_of log) thread 0 es in
-    let rest : made_by thread (drop t.seat.seen (changes_of log)) ≡ [] = ap (λ k. made_by thread (drop k (changes_of log))) t.seen_is ∙ t.rest in
-    subst P (sym t.calls_are) (run_follows quota thread (changes_of log) first_seat (take (length answers) commands) answers t.fronts t.seat t.run rest)
+    subst P (sym t.calls_are) (run_follows quota thread (changes_of log) first_seat (take (length answers) commands) answers t.fronts t.seat t.run t.rest)
 
 all_follow : (h : List Call) (k pass : ℕ) (log : List Ended) → ((p : ℕ) → pass ≤ p → p < pass + k → Follows h p 0 (of_pass p log)) → AllFollow h pass (passes_of k pass log)
 all_follow h zero pass log each = tt

@@ -1,5 +1,5 @@
 -- The collector's machine, and what it has announced.
-use Rattle.std.specs.Prelude.{◌≡◌, ℕ, ◌+◌, ◌-◌, nat_lt, if◌then◌else◌, Option, Some, None, refl}
+use Rattle.std.specs.Prelude.{◌≡◌, ◌≤◌, ℕ, ◌+◌, ◌-◌, Bool, true, false, nat_lt, if◌then◌else◌, Option, Some, None, refl}
 use Rattle.call_steps.specs.declared.step.Step.{Step}
 use Rattle.call_steps.specs.declared.step.Step.TheVariants.{Store, Ended}
 use Rattle.heap_words.specs.Layouts.{Sizes, phase_at, ack_at}
@@ -15,6 +15,7 @@ use Rattle.handshakes.specs.Awaits as awaits
 use Rattle.gc_cycle.specs.declared.collector.Announcement.{Announcement}
 use Rattle.gc_cycle.specs.declared.collector.Announcement.TheVariants.{Mark, Confirm, Copy, Fix, Free}
 use Rattle.gc_cycle.specs.declared.collector.Stage.{Stage}
+use Rattle.gc_cycle.specs.declared.collector.Awaited.{Awaited}
 use Rattle.gc_cycle.specs.declared.collector.CollectorMachine.{CollectorMachine}
 use Rattle.gc_cycle.specs.declared.collector.CollectorMachine.TheVariants as collector
 
@@ -134,3 +135,44 @@ abbrev pub passed_of : CollectorMachine → ℕ
 passed_of (collector.Announce s) = s.layout.passes
 passed_of (collector.Await s pass m) = pass - 1
 passed_of (collector.Done s) = s.layout.passes
+
+-- how many cycles it plays
+abbrev pub cycles_of : CollectorMachine → ℕ
+cycles_of k = let s = stage_of k in s.cycles
+
+-- ---- how many changes there were when its awaits ended
+
+-- no await of the cycle has ended
+abbrev pub none_awaited : Awaited
+none_awaited = record { mark = 0; confirm = 0; copy = 0; fix = 0; free = 0 }
+
+-- that of an announcement has ended
+abbrev pub with_await : Announcement → ℕ → Awaited → Awaited
+with_await Mark changes h = record h { mark = changes }
+with_await Confirm changes h = record h { confirm = changes }
+with_await Copy changes h = record h { copy = changes }
+with_await Fix changes h = record h { fix = changes }
+with_await Free changes h = record h { free = changes }
+
+-- an announcement of Mark begins a cycle
+abbrev pub begun_by : Announcement → Awaited → Awaited
+begun_by Mark h = none_awaited
+begun_by _ h = h
+
+abbrev pub is_await : CollectorMachine → Bool
+is_await (collector.Await s pass m) = true
+is_await _ = false
+
+-- behind a step of the collector from one machine to another, where there were so many changes
+abbrev pub awaits_behind : CollectorMachine → CollectorMachine → ℕ → Awaited → Awaited
+awaits_behind (collector.Announce s) after changes h = begun_by s.announcement h
+awaits_behind (collector.Await s pass m) after changes h = if is_await after then h else with_await s.announcement changes h
+awaits_behind (collector.Done s) after changes h = h
+
+-- each of them is no more than there are
+pub record AreEarlier (changes : ℕ) (h : Awaited) : Type 0 where
+  pub mark : h.mark ≤ changes
+  pub confirm : h.confirm ≤ changes
+  pub copy : h.copy ≤ changes
+  pub fix : h.fix ≤ changes
+  pub free : h.free ≤ changes

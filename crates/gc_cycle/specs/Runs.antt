@@ -1,4 +1,6 @@
 -- Worlds played under a schedule, and what a world shows.
+use Rattle.barriers.specs.PassMachines.{sees}
+use Rattle.gc_cycle.specs.Arranged.{arranged, shown}
 use Rattle.std.specs.Prelude.{◌≡◌, ◌≢◌, ℕ, zero, suc, ◌+◌, ◌≤◌, ◌<◌, Bool, true, false, not, if◌then◌else◌, List, [], ◌∷◌, length, take, Option, Some, None}
 use Rattle.std.specs.List.{filter, range_with_len, All}
 use Rattle.heap_words.specs.Layouts.{IsPass}
@@ -7,7 +9,7 @@ use Rattle.call_steps.specs.Steps.{found_by}
 use Rattle.heap_history.specs.declared.call.Entry.{Entry}
 use Rattle.heap_history.specs.declared.call.Ended.{Ended}
 use Rattle.heap_history.specs.FixedHeaps.{opening}
-use Rattle.heap_history.specs.Histories.{IsAccepted, pass_of}
+use Rattle.heap_history.specs.Histories.{IsAccepted, pass_of, changes}
 use Rattle.heap_script.specs.Allowed.{Seat, IsRun, first_seat}
 use Rattle.barriers.specs.declared.pass.PassMachine.{PassMachine}
 use Rattle.barriers.specs.declared.pass.PassMachine.TheVariants as machine
@@ -30,13 +32,13 @@ use Rattle.gc_cycle.specs.Schedules.{chooser_of, chosen_by}
 use Rattle.gc_cycle.specs.Commands.{commands_at}
 use Rattle.gc_cycle.specs.Tellings.{entries_of, changes_of, IsPlaced, of_pass, ended_in}
 use Rattle.gc_cycle.specs.TellingSteps.{with_raised}
-use Rattle.gc_cycle.specs.Worlds.{State, pass_at, answers_at, is_idle, turn_of, next_of, logged, place_of_command}
+use Rattle.gc_cycle.specs.Worlds.{State, pass_at, answers_at, turn_of, next_of, logged, place_of_command, can_step, changes_now}
 
 -- ---- runs
 
--- the parties that have not ended, in rising order
+-- the parties that can step, in rising order
 abbrev pub ready_of : State → List ℕ
-ready_of w = filter (λ party. not (is_idle (pass_at w party).machine)) (range_with_len 1 (length w.passes))
+ready_of w = filter (can_step w) (range_with_len 1 (w.layout.passes + 1))
 
 abbrev pub is_none : List ℕ → Bool
 is_none [] = true
@@ -85,6 +87,7 @@ decides (machine.New m) found = decides_new m
 decides (machine.Read m) found = read_meanings.meaning.decides m found
 decides (machine.Write m) found = write_meanings.meaning.decides m found
 decides (machine.Exchange m) found = exchange_meanings.meaning.decides m found
+decides (machine.Retire m) found = false
 
 abbrev pub is_raced_exchange : Option ExchangeEnd → Bool
 is_raced_exchange (Some (exchange_end.Refused (refusal.Raced loaded found))) = true
@@ -104,35 +107,51 @@ has_raced _ = false
 abbrev pub found_at : State → ℕ → ℕ
 found_at w party = found_by (asks_of (pass_at w party).machine) w.words
 
+-- whether a step is a call's change
+abbrev pub decides_at : State → ℕ → Bool
+decides_at w party = decides (pass_at w party).machine (found_at w party)
+
 -- the machine after the step
 abbrev pub fed_at : State → ℕ → PassMachine
 fed_at w party = fed_of (pass_at w party).machine (found_at w party)
 
--- What a turn of a party leaves and changes of what was seen and told: at most one call ends, one of this party, and the party has then seen
--- all changes; there is a change more exactly where the step decides one; a raced try, and nothing else, is counted.
+-- whether the step sees a field's value
+abbrev pub sees_at : State → ℕ → Bool
+sees_at w party = sees (pass_at w party).machine (found_at w party)
+
+-- how many changes a pass has seen
+abbrev pub seen_of : State → ℕ → ℕ
+seen_of w party = (pass_at w party).seen
+
+-- What a turn of a party leaves and changes of what was seen and told: at most one call ends, one of this party; a step that sees a value
+-- has seen all changes before it, and a call that ends has the front that its party has seen; there is a change more exactly where the step
+-- decides one, and its front is the last; a raced try, and nothing else, is counted.
 pub record Moves (w : State) (party : ℕ) (new : State) : Type 0 where
   pub others : (q : ℕ) → IsPass w.layout q → q ≢ party → pass_at new q ≡ pass_at w q
   pub call : Option Ended
   pub log : new.told.log ≡ logged w.told.log call
-  pub changes : length (changes_of new.told.log) ≡ length (changes_of w.told.log) + (if decides (pass_at w party).machine (found_at w party) then 1 else 0)
-  pub unseen : call ≡ None → (pass_at new party).seen ≡ (pass_at w party).seen
-  pub seen : (e : Ended) → call ≡ Some e → (pass_of e.call ≡ party) × ((pass_at new party).seen ≡ e.front) × (e.front ≡ length (changes_of new.told.log))
+  pub changes : changes_now new ≡ changes_now w + (if decides_at w party then 1 else 0)
+  pub unseen : sees_at w party ≡ false → decides_at w party ≡ false → seen_of new party ≡ seen_of w party
+  pub saw : sees_at w party ≡ true → seen_of new party ≡ changes_now w
+  pub made : decides_at w party ≡ true → seen_of new party ≡ changes_now new
+  pub told : (e : Ended) → call ≡ Some e → (pass_of e.call ≡ party) × (e.front ≡ seen_of new party)
   pub counts : new.told.agains ≡ (if has_raced (fed_at w party) then with_raised w.told.agains (place_of_command w party) else w.told.agains)
 
 -- ---- what a world shows
 
--- The entries are those of the calls that have ended: a heap whose objects never move accepts them, and each stands where its front says. Each
--- thread's answers are allowed for the changes among them: the commands that it has ended are a run, and its calls stand among the
--- entries in the order of this run, with its fronts.
+-- The entries are the calls that have ended, arranged by their fronts: a heap whose objects never move accepts them, and each stands where its
+-- front says. Each thread's answers are allowed for the changes among them: the commands that it has ended are a run, and its calls stand
+-- among the entries in the order of this run, with its fronts.
 pub record ShowsThread (w : State) (party : ℕ) : Type 0 where
   pub fronts : List ℕ
   pub seat : Seat
   pub run : IsRun w.layout.quota party (changes_of w.told.log) first_seat (take (length (answers_at w party)) (commands_at w.commands party)) (answers_at w party) fronts seat
-  pub calls : of_pass party w.told.log ≡ ended_in party first_seat (take (length (answers_at w party)) (commands_at w.commands party)) (answers_at w party) fronts
+  pub calls : of_pass party (arranged w.told.log) ≡ ended_in party first_seat (take (length (answers_at w party)) (commands_at w.commands party)) (answers_at w party) fronts
 
 pub record Shows (w : State) (entries : List Entry) : Type 0 where
-  pub entries_are : entries ≡ entries_of w.told.log
+  pub entries_are : entries ≡ shown w.told.log
   pub accepted : IsAccepted opening entries
-  pub placed : IsPlaced 0 w.told.log
+  pub changes_are : changes entries ≡ changes_of w.told.log
+  pub placed : IsPlaced 0 (arranged w.told.log)
   pub owners : All (λ e. IsPass w.layout (pass_of e.call)) w.told.log
   pub threads : (party : ℕ) → IsPass w.layout party → ShowsThread w party

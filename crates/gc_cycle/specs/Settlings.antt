@@ -15,6 +15,11 @@ use Rattle.heap_script.specs.declared.script.Command.TheVariants as commands
 use Rattle.heap_script.specs.declared.answer.Answer.{Answer}
 use Rattle.heap_script.specs.declared.answer.Answer.TheVariants as answers
 use Rattle.handshakes.specs.declared.poll.PollEnd.{PollEnd}
+use Rattle.handshakes.specs.declared.retire.RetireEnd.{RetireEnd}
+use Rattle.handshakes.specs.declared.retire.RetireMachine.TheVariants as retire
+use Rattle.handshakes.specs.Retires.{retire_of}
+use Rattle.handshakes.specs.declared.phase_word.Phase.{Phase}
+use Rattle.handshakes.specs.PhaseWords.{phase_word_at}
 use Rattle.handshakes.specs.declared.poll.PollMachine.TheVariants as poll
 use Rattle.handshakes.specs.Polls.{poll_of}
 use Rattle.barriers.specs.declared.pass.PassRecord.{PassRecord}
@@ -40,6 +45,7 @@ use Rattle.barriers.specs.Reads as reads
 use Rattle.barriers.specs.Writes as writes
 use Rattle.barriers.specs.Exchanges as exchanges
 use Rattle.handshakes.specs.Polls as polls
+use Rattle.handshakes.specs.Retires as retires
 use Rattle.gc_cycle.specs.declared.settling.Settled.{Settled}
 use Rattle.gc_cycle.specs.declared.settling.Settled.TheVariants as settled
 
@@ -78,27 +84,35 @@ with_register p register word = record p { registers = slice_set p.registers reg
 abbrev pub poll_before : PassRecord → PassMachine
 poll_before p = machine.Poll (poll.Phase (poll_of p.view p.registers))
 
+-- the retirement behind the last command
+abbrev pub retirement : Sizes → PassRecord → PassMachine
+retirement l p = machine.Retire (retire.Root (retire_of l p.view.pass p.registers p.room.region) 7)
+
 -- ---- the poll has ended, and the command begins
+
+-- the phase that the pass has acknowledged
+abbrev pub phase_of : PassRecord → Phase
+phase_of p = (phase_word_at p.view.acked).phase
 
 -- an access of the object to which a register leads
 abbrev pub access : PassRecord → FieldWord → (ℕ → ℕ → PassMachine) → Settled
 access p (Num n) begin = quiet p answers.NotLink
 access p (Link birth at) begin = going p (begin birth at)
 
-abbrev pub begun_read : ℕ → ℕ → ℕ → PassMachine
-begun_read field birth at = machine.Read (read.Header (spot_of birth at field))
+abbrev pub begun_read : Phase → ℕ → ℕ → ℕ → PassMachine
+begun_read phase field birth at = machine.Read (read.Header (spot_of birth at field) phase)
 
 abbrev pub begun_write : ℕ → ℕ → ℕ → ℕ → PassMachine
 begun_write field word birth at = machine.Write (write.Header (spot_of birth at field) word)
 
-abbrev pub begun_exchange : ℕ → FieldWord → ℕ → ℕ → ℕ → PassMachine
-begun_exchange field expected word birth at = machine.Exchange (exchange.Header (spot_of birth at field) expected word)
+abbrev pub begun_exchange : Phase → ℕ → FieldWord → ℕ → ℕ → ℕ → PassMachine
+begun_exchange phase field expected word birth at = machine.Exchange (exchange.Header (spot_of birth at field) phase expected word)
 
 abbrev pub begun : Sizes → Command → PassRecord → Settled
 begun l (commands.New dst len) p = going p (machine.New (makes.new_of l p.view p.room p.made len))
-begun l (commands.Get dst obj field) p = access p (held p.registers obj) (begun_read field)
+begun l (commands.Get dst obj field) p = access p (held p.registers obj) (begun_read (phase_of p) field)
 begun l (commands.Put obj field what) p = access p (held p.registers obj) (begun_write field (word_of (meant p.registers what)))
-begun l (commands.Cas dst obj field expected value) p = access p (held p.registers obj) (begun_exchange field (meant p.registers expected) (word_of (meant p.registers value)))
+begun l (commands.Cas dst obj field expected value) p = access p (held p.registers obj) (begun_exchange (phase_of p) field (meant p.registers expected) (word_of (meant p.registers value)))
 begun l (commands.Copy dst src) p = quiet (with_register p dst (held p.registers src)) answers.Ok
 begun l (commands.Drop dst) p = quiet (with_register p dst (Num 0)) answers.Ok
 begun l commands.Poll p = quiet p answers.Ok
@@ -114,12 +128,19 @@ new_ended changes (commands.New dst len) p (new_end.Made birth at room) =
     told (record (with_register p dst (Link birth at)) { room = room; made = p.made + 1 }) (answers.Made birth) (calls.NewObject p.view.pass birth len) replies.Made (changes + 1)
 new_ended changes _ p _ = quiet p answers.Full
 
--- The field is read: the register holds what it held.
-abbrev pub read_ended : ℕ → Command → PassRecord → ReadEnd → Settled
-read_ended changes (commands.Get dst obj field) p (read_end.Got word) =
-    told (with_register p dst word) (answers.Got (value_of word)) (calls.Read p.view.pass (named (held p.registers obj)) field) (replies.Got (value_of word)) changes
-read_ended changes _ p (read_end.NoField len) = quiet p (answers.NoField len)
-read_ended changes _ p _ = settled.Going p
+-- the call that a `get` of a pass with these registers is
+abbrev pub read_of : ℕ → List FieldWord → ℕ → ℕ → Call
+read_of pass registers obj field = calls.Read pass (named (held registers obj)) field
+
+abbrev pub read_call : PassRecord → ℕ → ℕ → Call
+read_call p obj field = read_of p.view.pass p.registers obj field
+
+-- The field is read: the register holds what it held when the pass saw it.
+abbrev pub read_ended : Command → PassRecord → ReadEnd → Settled
+read_ended (commands.Get dst obj field) p (read_end.Got word) =
+    told (with_register p dst word) (answers.Got (value_of word)) (read_call p obj field) (replies.Got (value_of word)) p.seen
+read_ended _ p (read_end.NoField len) = quiet p (answers.NoField len)
+read_ended _ p _ = settled.Going p
 
 -- A try was refused: the command is answered, or a further try begins with a poll.
 abbrev pub refused : PassRecord → TryRefusal → Settled
@@ -134,17 +155,20 @@ write_ended changes (commands.Put obj field what) p write_end.Wrote =
 write_ended changes _ p (write_end.Refused why) = refused p why
 write_ended changes _ p _ = settled.Going p
 
--- the call that a `cas` is
+-- the call that a `cas` of a pass with these registers is
+abbrev pub exchange_of : ℕ → List FieldWord → ℕ → ℕ → Operand → Operand → Call
+exchange_of pass registers obj field expected value =
+    calls.Exchange pass (named (held registers obj)) field (value_of (meant registers expected)) (value_of (meant registers value))
+
 abbrev pub exchange_call : PassRecord → ℕ → ℕ → Operand → Operand → Call
-exchange_call p obj field expected value =
-    calls.Exchange p.view.pass (named (held p.registers obj)) field (value_of (meant p.registers expected)) (value_of (meant p.registers value))
+exchange_call p obj field expected value = exchange_of p.view.pass p.registers obj field expected value
 
 -- The field is written; or it holds another value, and the register holds that.
 abbrev pub exchange_ended : ℕ → Command → PassRecord → ExchangeEnd → Settled
 exchange_ended changes (commands.Cas dst obj field expected value) p exchange_end.Done =
     told p answers.Done (exchange_call p obj field expected value) replies.Done (changes + 1)
 exchange_ended changes (commands.Cas dst obj field expected value) p (exchange_end.Differs word) =
-    told (with_register p dst word) (answers.Differs (value_of word)) (exchange_call p obj field expected value) (replies.Differs (value_of word)) changes
+    told (with_register p dst word) (answers.Differs (value_of word)) (exchange_call p obj field expected value) (replies.Differs (value_of word)) p.seen
 exchange_ended changes _ p (exchange_end.Refused why) = refused p why
 exchange_ended changes _ p _ = settled.Going p
 
@@ -159,10 +183,29 @@ abbrev pub settled_by : PassMachine → Sizes → ℕ → Command → PassRecord
 settled_by machine.Idle l changes command p = settled.Going p
 settled_by (machine.Poll m) l changes command p = ended_so p (polled l command) (polls.end_of m)
 settled_by (machine.New m) l changes command p = ended_so p (new_ended changes command) (makes.end_of m)
-settled_by (machine.Read m) l changes command p = ended_so p (read_ended changes command) (reads.end_of m)
+settled_by (machine.Read m) l changes command p = ended_so p (read_ended command) (reads.end_of m)
 settled_by (machine.Write m) l changes command p = ended_so p (write_ended changes command) (writes.end_of m)
 settled_by (machine.Exchange m) l changes command p = ended_so p (exchange_ended changes command) (exchanges.end_of m)
+settled_by (machine.Retire m) l changes command p = settled.Going p
 
 -- What comes of the machine that the pass is in, at this command, where there were so many changes.
 abbrev pub settled_of : Sizes → ℕ → Command → PassRecord → Settled
 settled_of l changes command p = settled_by p.machine l changes command p
+
+-- ---- behind the last command
+
+-- the pass has retired
+abbrev pub retired : PassRecord → RetireEnd → PassRecord
+retired p end = record p { view = end.view; machine = machine.Idle }
+
+abbrev pub retired_if : PassRecord → Option RetireEnd → PassRecord
+retired_if p None = p
+retired_if p (Some end) = retired p end
+
+abbrev pub rested_by : PassMachine → PassRecord → PassRecord
+rested_by (machine.Retire m) p = retired_if p (retires.end_of m)
+rested_by _ p = p
+
+-- What comes of the machine of a pass that has no command left: where its retirement has ended, it is in none.
+abbrev pub rested : PassRecord → PassRecord
+rested p = rested_by p.machine p

@@ -59,18 +59,18 @@ ended_in thread seat (c ∷ cs) (a ∷ rest) (n ∷ ns) = ended_with (call_of th
 ended_in thread seat _ _ _ = []
 
 -- What a thread's answers say of the calls that have ended. Its commands so far are a run of it in the history, at whose end its
--- registers hold these values, and it has seen so many changes; its calls in the history are those of this run, each once and in this order,
--- and it made no change behind what it has seen.
+-- registers hold these values; since then it may have seen more changes. Its calls in the history are those of this run, each once and in this
+-- order, and it made no change behind what it had seen.
 pub record Tells (quota thread made seen : ℕ) (registers : List FieldWord) (commands : List Command) (answers : List Answer) (log : List Ended) : Type 0 where
   pub fronts : List ℕ
   pub seat : Seat
   pub run : IsRun quota thread (changes_of log) first_seat (take (length answers) commands) answers fronts seat
   pub calls_are : of_pass thread log ≡ ended_in thread first_seat (take (length answers) commands) answers fronts
   pub registers_are : seat.registers ≡ map value_of registers
-  pub seen_is : seat.seen ≡ seen
+  pub seen_grows : seat.seen ≤ seen
   pub seen_before : seen ≤ length (changes_of log)
   pub lens_are : length seat.lens ≡ made
-  pub rest : made_by thread (drop seen (changes_of log)) ≡ []
+  pub rest : made_by thread (drop seat.seen (changes_of log)) ≡ []
 
 -- What holds of the calls that have ended: the fixed heap accepts them, and each stands where its front says.
 pub record IsTold (log : List Ended) : Type 0 where

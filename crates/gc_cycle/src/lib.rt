@@ -10,7 +10,7 @@ mod told;
 mod world;
 
 pub use arranging::arrange;
-pub use collector::{Announcement, CollectorMachine, Stage};
+pub use collector::{Announcement, Awaited, CollectorMachine, Stage};
 pub use schedule::{Schedule, StepsSpent};
 pub use told::Again;
 pub use world::{Turn, World};

@@ -7,13 +7,13 @@ ghost use Rattle.heap_words.specs.declared.field_word.FieldWord.TheVariants.{Num
 ghost use Rattle.heap_script.specs.Scripts.{OperandFits, CommandFits};
 ghost use Rattle.heap_words.specs.FieldWords.{word_of};
 ghost use Rattle.gc_cycle.specs.Ready.{IsReady, HasPolled};
-ghost use Rattle.gc_cycle.specs.Settlings.{settled_of, meant as meant_of, named as named_of, quiet as quiet_of, begun as begun_of, refused as refused_of, poll_before as poll_before_of, with_register as with_register_of, exchange_call as exchange_call_of, new_ended as new_ended_of, read_ended as read_ended_of, write_ended as write_ended_of, exchange_ended as exchange_ended_of, access as access_of, held as held_in, polled as polled_of, begun_read, begun_write, begun_exchange};
+ghost use Rattle.gc_cycle.specs.Settlings.{settled_of, meant as meant_of, named as named_of, quiet as quiet_of, begun as begun_of, refused as refused_of, poll_before as poll_before_of, retirement as retirement_of, rested as rested_of, read_call as read_call_of, with_register as with_register_of, exchange_call as exchange_call_of, new_ended as new_ended_of, read_ended as read_ended_of, write_ended as write_ended_of, exchange_ended as exchange_ended_of, access as access_of, held as held_in, polled as polled_of, phase_of, begun_read, begun_write, begun_exchange};
 
 use barriers::{
     ExchangeEnd, ExchangeMachine, NewEnd, NewMachine, PassMachine, PassRecord, ReadEnd,
     ReadMachine, TryRefusal, WriteEnd, WriteMachine, value_of,
 };
-use handshakes::{PollEnd, PollMachine};
+use handshakes::{PollEnd, PollMachine, RetireMachine};
 use heap_history::{Call, Ended, Reply};
 use heap_script::{Answer, Command};
 use heap_words::{FieldWord, Layout, Operand, pack};
@@ -96,26 +96,36 @@ pub fn poll_before(layout: &Layout, pass: PassRecord) -> PassMachine
     PassMachine::Poll(PollMachine::new(layout, pass.view, pass.registers))
 }
 
+/// The retirement behind the last command.
+pub fn retirement(layout: &Layout, pass: PassRecord) -> PassMachine
+    requires { IsReady layout.now pass }
+    ensures { result ≡ retirement_of layout.now pass }
+{
+    prove!(layout.quota() >= 1);
+    let region = pass.room.region;
+    PassMachine::Retire(RetireMachine::new(layout, pass.view, pass.registers, region))
+}
+
 /// A read begins, if the register leads to an object.
-fn begin_get(pass: PassRecord, obj: u32, field: u32) -> Settled
+fn begin_get(layout: &Layout, pass: PassRecord, obj: u32, field: u32) -> Settled
     requires obj { obj < 8 }
-    requires registers { All IsFieldWord pass.registers }
-    ensures { result ≡ access_of pass (held_in pass.registers obj) (begun_read field) }
+    requires ready { IsReady layout.now pass }
+    ensures { result ≡ access_of pass (held_in pass.registers obj) (begun_read (phase_of pass) field) }
 {
     match pass.registers[obj as usize] {
         FieldWord::Num(_) => quiet(pass, Answer::NotLink),
         FieldWord::Link { birth, at } => Settled::Going(PassRecord {
-            machine: PassMachine::Read(ReadMachine::new(birth, at, field)),
+            machine: PassMachine::Read(ReadMachine::new(layout, pass.view, birth, at, field)),
             ..pass
         }),
     }
 }
 
 /// A write begins, if the register leads to an object.
-fn begin_put(pass: PassRecord, obj: u32, field: u32, what: Operand) -> Settled
+fn begin_put(layout: &Layout, pass: PassRecord, obj: u32, field: u32, what: Operand) -> Settled
     requires obj { obj < 8 }
     requires what { OperandFits what }
-    requires registers { All IsFieldWord pass.registers }
+    requires ready { IsReady layout.now pass }
     ensures { result ≡ access_of pass (held_in pass.registers obj)
         (begun_write field (word_of (meant_of pass.registers what))) }
 {
@@ -123,27 +133,38 @@ fn begin_put(pass: PassRecord, obj: u32, field: u32, what: Operand) -> Settled
     match pass.registers[obj as usize] {
         FieldWord::Num(_) => quiet(pass, Answer::NotLink),
         FieldWord::Link { birth, at } => Settled::Going(PassRecord {
-            machine: PassMachine::Write(WriteMachine::new(birth, at, field, word)),
+            machine: PassMachine::Write(WriteMachine::new(
+                layout, pass.view, birth, at, field, word,
+            )),
             ..pass
         }),
     }
 }
 
 /// An exchange begins, if the register leads to an object.
-fn begin_cas(pass: PassRecord, obj: u32, field: u32, expected: Operand, value: Operand) -> Settled
+fn begin_cas(
+    layout: &Layout,
+    pass: PassRecord,
+    obj: u32,
+    field: u32,
+    expected: Operand,
+    value: Operand,
+) -> Settled
     requires obj { obj < 8 }
     requires expected { OperandFits expected }
     requires value { OperandFits value }
-    requires registers { All IsFieldWord pass.registers }
+    requires ready { IsReady layout.now pass }
     ensures { result ≡ access_of pass (held_in pass.registers obj)
-        (begun_exchange field (meant_of pass.registers expected) (word_of (meant_of pass.registers value))) }
+        (begun_exchange (phase_of pass) field (meant_of pass.registers expected) (word_of (meant_of pass.registers value))) }
 {
     let expected = meant(&pass.registers, expected);
     let word = pack(meant(&pass.registers, value));
     match pass.registers[obj as usize] {
         FieldWord::Num(_) => quiet(pass, Answer::NotLink),
         FieldWord::Link { birth, at } => Settled::Going(PassRecord {
-            machine: PassMachine::Exchange(ExchangeMachine::new(birth, at, field, expected, word)),
+            machine: PassMachine::Exchange(ExchangeMachine::new(
+                layout, pass.view, birth, at, field, expected, word,
+            )),
             ..pass
         }),
     }
@@ -163,15 +184,15 @@ fn begin(layout: &Layout, command: Command, pass: PassRecord) -> Settled
                 ..pass
             })
         }
-        Command::Get { obj, field, .. } => begin_get(pass, obj, field),
-        Command::Put { obj, field, what } => begin_put(pass, obj, field, what),
+        Command::Get { obj, field, .. } => begin_get(layout, pass, obj, field),
+        Command::Put { obj, field, what } => begin_put(layout, pass, obj, field, what),
         Command::Cas {
             obj,
             field,
             expected,
             value,
             ..
-        } => begin_cas(pass, obj, field, expected, value),
+        } => begin_cas(layout, pass, obj, field, expected, value),
         Command::Copy { dst, src } => {
             let word = pass.registers[src as usize];
             quiet(with_register(pass, dst, word), Answer::Ok)
@@ -206,23 +227,31 @@ fn end_new(changes: u32, command: Command, pass: PassRecord, end: NewEnd) -> Set
     }
 }
 
+/// The call that a `get` is.
+fn read_call(pass: &PassRecord, obj: u32, field: u32) -> Call
+    requires { obj < 8 }
+    ensures { result ≡ read_call_of pass.now obj field }
+{
+    Call::Read {
+        pass: pass.view.pass,
+        object: named(pass.registers[obj as usize]),
+        field,
+    }
+}
+
 /// The field is read, and the register holds what it held; or there is no such field.
-fn end_read(changes: u32, command: Command, pass: PassRecord, end: ReadEnd) -> Settled
+fn end_read(command: Command, pass: PassRecord, end: ReadEnd) -> Settled
     requires command { CommandFits command }
-    ensures { result ≡ read_ended_of changes command pass end }
+    ensures { result ≡ read_ended_of command pass end }
 {
     match end {
         ReadEnd::NoField { len } => quiet(pass, Answer::NoField(len)),
         ReadEnd::Got(word) => match command {
             Command::Get { dst, obj, field } => {
                 let value = value_of(word);
-                let call = Call::Read {
-                    pass: pass.view.pass,
-                    object: named(pass.registers[obj as usize]),
-                    field,
-                };
+                let call = read_call(&pass, obj, field);
                 let pass = with_register(pass, dst, word);
-                told(pass, Answer::Got(value), call, Reply::Got(value), changes)
+                told(pass, Answer::Got(value), call, Reply::Got(value), pass.seen)
             }
             _ => Settled::Going(pass),
         },
@@ -337,7 +366,7 @@ fn end_exchange(
                 Answer::Differs(found),
                 call,
                 Reply::Differs(found),
-                changes,
+                pass.seen,
             )
         }
         _ => Settled::Going(pass),
@@ -359,6 +388,20 @@ fn end_poll(layout: &Layout, command: Command, pass: PassRecord, end: PollEnd) -
     begin(layout, command, pass)
 }
 
+/// What comes of the machine of a pass that has no command left: where its retirement has ended, it is in none.
+pub fn rested(pass: PassRecord) -> PassRecord
+    ensures { result ≡ rested_of pass }
+{
+    match pass.machine {
+        PassMachine::Retire(RetireMachine::Ended(end)) => PassRecord {
+            view: end.view,
+            machine: PassMachine::Idle,
+            ..pass
+        },
+        _ => pass,
+    }
+}
+
 /// What comes of the machine that the pass is in, where there were so many changes: where it has ended, the command
 /// begins, is answered, or is tried again.
 pub fn settle(layout: &Layout, changes: u32, command: Command, pass: PassRecord) -> Settled
@@ -371,7 +414,10 @@ pub fn settle(layout: &Layout, changes: u32, command: Command, pass: PassRecord)
     match pass.machine {
         PassMachine::Poll(PollMachine::Ended(end)) => end_poll(layout, command, pass, end),
         PassMachine::New(NewMachine::Ended(end)) => end_new(changes, command, pass, end),
-        PassMachine::Read(ReadMachine::Ended(end)) => end_read(changes, command, pass, end),
+        PassMachine::Read(machine) => match machine.end() {
+            Some(end) => end_read(command, pass, end),
+            None => Settled::Going(pass),
+        },
         PassMachine::Write(WriteMachine::Ended(end)) => {
             end_write(layout, changes, command, pass, end)
         }

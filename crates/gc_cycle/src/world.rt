@@ -1,8 +1,11 @@
-//! Some passes and the words on which they step.
+//! Some passes and the collector, and the words on which they step.
 
 ghost use Rattle.std.specs.Prelude.{◌≡◌, ◌≢◌, ◌≤◌, ◌<◌, ◌+◌, ◌-◌, ◌++◌, ◌∷◌, [], length, slice_set, false};
+ghost use Rattle.call_steps.specs.declared.step.Step.TheVariants.{Ended as StepEnded};
+ghost use Rattle.call_steps.specs.Steps.{IsInside};
+ghost use Rattle.gc_cycle.specs.Collectors.{asks_of};
 ghost use Rattle.gc_cycle.specs.Ready.{IsReady};
-ghost use Rattle.gc_cycle.specs.Worlds.{State, CanTell, CanSettle, CanTake, IsReadyAfter, pass_at, command_at, answered, concluded as concluded_in, logged, machine_behind as machine_behind_of, moved, next_of, settled_at, taken_in as taken_in_of, turn_of, turn_said, is_idle as is_idle_in, with_pass};
+ghost use Rattle.gc_cycle.specs.Worlds.{State, CanTell, CanSettle, CanTake, IsReadyAfter, IsThere, pass_at, command_at, answered, concluded as concluded_in, logged, machine_behind as machine_behind_of, moved, next_of, settled_at, taken_in as taken_in_of, turn_of, turn_said, is_idle as is_idle_in, is_done as is_done_in, collector_turn, with_pass};
 ghost use Rattle.gc_cycle.specs.Lawful.{Lawful};
 ghost use Rattle.gc_cycle.specs.Commands.{commands_at};
 
@@ -10,8 +13,9 @@ mod opening;
 mod playing;
 mod showing;
 
+use crate::collector::{Awaited, CollectorMachine};
 use crate::commands::Commands;
-use crate::settling::{Settled, poll_before, settle};
+use crate::settling::{Settled, poll_before, rested, retirement, settle};
 use crate::told::Told;
 use barriers::{PassMachine, PassRecord};
 use call_steps::{Machine, PlainWords, Step};
@@ -31,14 +35,16 @@ pub enum Turn {
     Ended,
 }
 
-/// The passes of a script, which play its commands, the words on which they step, and what there is to tell.
-/// Parties count from 1.
+/// The passes of a script, which play its commands, the collector, the words on which they step, and what there is
+/// to tell. The parties are the threads, which count from 1, and behind them the collector.
 #[derive(Drop)]
 pub struct World {
     layout: Layout,
     commands: Commands,
     words: PlainWords,
     passes: Vec<PassRecord>,
+    collector: CollectorMachine,
+    awaited: Awaited,
     told: Told,
 }
 
@@ -47,7 +53,7 @@ impl Model for World {
 
     ghost Value = { State };
 
-    ghost view = { λ w. record { layout = w.layout; commands = w.commands; words = w.words; passes = w.passes.items; told = w.told } };
+    ghost view = { λ w. record { layout = w.layout; commands = w.commands; words = w.words; passes = w.passes.items; collector = w.collector; awaited = w.awaited; told = w.told } };
 }
 
 /// Whether a machine is none.
@@ -57,17 +63,25 @@ fn is_idle(machine: &PassMachine) -> bool
     matches!(machine, PassMachine::Idle)
 }
 
+/// Whether the collector has played its cycles.
+fn is_done(collector: &CollectorMachine) -> bool
+    ensures { result ≡ is_done_in collector.now }
+{
+    matches!(collector, CollectorMachine::Done(_))
+}
+
 impl World {
-    /// The machine behind so many of a thread's commands: the poll before the next one, if there is one.
+    /// The machine behind so many of a thread's commands: the poll before the next one, or the retirement behind
+    /// the last.
     fn machine_behind(&self, party: u32, count: usize, pass: PassRecord) -> PassMachine
         requires party { (1 ≤ party) × (party ≤ length self.now.commands) }
         requires ready { IsReady self.now.layout pass }
-        ensures { result ≡ machine_behind_of (commands_at self.now.commands party) count pass }
+        ensures { result ≡ machine_behind_of self.now.layout (commands_at self.now.commands party) count pass }
     {
         if count < self.commands.count(party) {
             poll_before(&self.layout, pass)
         } else {
-            PassMachine::Idle
+            retirement(&self.layout, pass)
         }
     }
 
@@ -121,7 +135,7 @@ impl World {
 
     /// The command that a party is at, if one is left.
     fn command(&self, party: u32) -> Option<Command>
-        requires tell { CanTell self.now party }
+        requires there { IsThere self.now party }
         ensures { result ≡ command_at self.now party }
     {
         self.commands.get(party, self.told.answered(party))
@@ -133,7 +147,7 @@ impl World {
         ensures { self.new ≡ settled_at self.old party pass (command_at self.old party) }
     {
         match self.command(party) {
-            None => self.put_pass(party, pass),
+            None => self.put_pass(party, rested(pass)),
             Some(command) => {
                 let settled = settle(&self.layout, self.told.changes(), command, pass);
                 self.take_in(party, settled);
@@ -149,8 +163,34 @@ impl World {
         let pass = self.passes[party as usize - 1];
         let mut machine = pass.machine;
         let found = self.words.apply(machine.ask());
+        let seen = if machine.sees(found) {
+            self.told.changes()
+        } else {
+            pass.seen
+        };
         machine.feed(found);
-        self.settle(party, PassRecord { machine, ..pass });
+        self.settle(
+            party,
+            PassRecord {
+                machine,
+                seen,
+                ..pass
+            },
+        );
+    }
+
+    /// The collector takes its next step.
+    fn collect(&mut self)
+        requires inside { IsInside (length self.old.words) (asks_of self.old.collector) }
+        requires goes_on { asks_of self.old.collector ≢ StepEnded }
+        ensures { self.new ≡ collector_turn self.old }
+    {
+        let before = self.collector;
+        let found = self.words.apply(before.ask());
+        self.collector.feed(found);
+        self.awaited = self
+            .awaited
+            .behind(&before, &self.collector, self.told.changes());
     }
 }
 

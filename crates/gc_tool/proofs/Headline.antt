@@ -6,8 +6,9 @@ use Rattle.heap_script.specs.Scripts.{Reading}
 use Rattle.gc_cycle.specs.declared.schedule.Schedule.{Schedule}
 use Rattle.gc_cycle.specs.declared.schedule.Schedule.TheVariants.{Solo}
 use Rattle.gc_cycle.specs.Commands.{commands_by}
+use Rattle.heap_script.specs.Allowed.{IsAllowed}
 use Rattle.heap_script.specs.declared.answer.Answer.{Answer}
-use Rattle.gc_cycle.specs.Tellings.{entries_of}
+use Rattle.gc_cycle.specs.Arranged.{shown}
 use Rattle.gc_cycle.specs.Worlds.{State, opening_state}
 use Rattle.gc_cycle.specs.Lawful.{Lawful, IsScript}
 use Rattle.gc_cycle.specs.Runs.{run_of, is_over}
@@ -27,7 +28,7 @@ is_script script built = script_of script built.fits (λ t is. built.room t is.0
 
 -- its world at the start is lawful
 pub opens : (script : Reading) → IsBuilt script → Lawful (opening_state script)
-opens script built = opening_lawful script (is_script script built)
+opens script built = opening_lawful script (is_script script built) built.fits.cycles
 
 -- and whatever the schedule
 pub lawful_after : (script : Reading) (replay : Replay) → IsBuilt script → Lawful (world_after script replay)
@@ -39,17 +40,17 @@ is_output script replay built ends =
     let w = world_after script replay in
     let lawful = lawful_after script replay built in
     let stays = run_keeps_static replay.schedule replay.steps (opening_state script) in
-    let shows = shows_of w lawful (entries_of w.told.log) refl in
+    let shows = shows_of w lawful (shown w.told.log) refl in
     record {
       ends = ends;
       told = refl;
       legal = record {
-        entries = entries_of w.told.log;
+        entries = shown w.told.log;
         agains = w.told.agains;
         answers = w.told.answers;
         text_is = refl;
         accepted = shows.accepted;
-        allowed = over_allowed script w lawful ends stays.layout stays.commands;
+        allowed = subst (λ history. IsAllowed script history w.told.answers) (sym shows.changes_are) (over_allowed script w lawful ends stays.layout stays.commands);
       };
       shows = shows;
     }

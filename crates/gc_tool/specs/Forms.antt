@@ -129,10 +129,9 @@ room_of_thread thread lines = sum_by room_of (commands_of thread lines)
 abbrev pub HaveRoom : ℕ → List Line → Type 0
 HaveRoom threads lines = (thread : ℕ) → 1 ≤ thread → thread ≤ threads → room_of_thread thread lines ≤ 64
 
--- A script without cycles, in which the objects of each thread fit one region.
+-- A script in which the objects of each thread fit one region.
 pub record IsBuilt (script : Reading) : Type 0 where
   pub fits : Fits script
-  pub cycles : script.cycles ≡ 0
   pub room : HaveRoom script.layout.passes script.lines
 
 -- Why bytes are not played: a line has a fault, or they spell a script that is not built; want of memory has no cause.

@@ -1,5 +1,5 @@
 -- What a replay comes to, and what a call of the program says of the outside.
-use Rattle.std.specs.Prelude.{◌≡◌, ℕ, ◌*◌, ◌≤◌, Bool, true, false, if◌then◌else◌, List, length, Option, Some, Ok}
+use Rattle.std.specs.Prelude.{◌≡◌, ◌+◌, ℕ, ◌*◌, ◌≤◌, Bool, true, false, if◌then◌else◌, List, length, Option, Some, Ok}
 use Rattle.heap_history.specs.declared.call.Entry.{Entry}
 use Rattle.heap_history.specs.FixedHeaps.{opening}
 use Rattle.heap_history.specs.Histories.{IsAccepted, changes}
@@ -10,7 +10,7 @@ use Rattle.heap_script.specs.Grammar.{Fault}
 use Rattle.heap_script.specs.Allowed.{IsAllowed}
 use Rattle.gc_cycle.specs.declared.schedule.Schedule.TheVariants.{Solo}
 use Rattle.gc_cycle.specs.declared.told.Again.{Again}
-use Rattle.gc_cycle.specs.Tellings.{entries_of}
+use Rattle.gc_cycle.specs.Arranged.{shown}
 use Rattle.gc_cycle.specs.Worlds.{State, opening_state}
 use Rattle.gc_cycle.specs.Runs.{run_of, is_over, Shows}
 use Rattle.gc_tool.specs.declared.forms.Replay.{Replay}
@@ -26,18 +26,20 @@ use Rattle.gc_tool.specs.Outside.{ReadsAll, Rose}
 abbrev pub world_after : Reading → Replay → State
 world_after script replay = run_of replay.schedule replay.steps (opening_state script)
 
--- all threads of the script end within the steps
+-- all threads of the script and the collector end within the steps
 abbrev pub ends_within : Reading → Replay → Bool
 ends_within script replay = is_over (world_after script replay)
 
 -- the text of a world's history, refused tries and answers
 abbrev pub text_of_world : State → List ℕ
-text_of_world w = replay_text (entries_of w.told.log) w.told.agains w.told.answers
+text_of_world w = replay_text (shown w.told.log) w.told.agains w.told.answers
 
 -- Where one thread plays after another, a command takes at most four steps: a `new` loads the phase word, loads and claims the
--- region's word and stores the header, and a `cas` loads the phase word, the header and the field and exchanges it.
+-- region's word and stores the header, and a `cas` loads the phase word, the header and the field and exchanges it. A thread that
+-- retires stores eight registers, the word of its region and its acknowledgement. Then the collector stores each of the five phases of
+-- a cycle, and loads the acknowledgement of each thread.
 abbrev pub enough_steps : Reading → ℕ
-enough_steps script = 4 * length script.lines
+enough_steps script = 4 * length script.lines + 10 * script.layout.passes + 5 * script.cycles * (1 + script.layout.passes)
 
 -- The text tells a legal run of the script: a heap whose objects never move accepts the entries, and the answers of all threads are
 -- allowed for the changes among them.
@@ -49,15 +51,15 @@ pub record IsLegal (script : Reading) (text : List ℕ) : Type 0 where
   pub accepted : IsAccepted opening entries
   pub allowed : IsAllowed script (changes entries) answers
 
--- The output of a replay: all threads end within its steps, and the text is that of its world, and legal. Each thread's calls stand
+-- The output of a replay: all parties end within its steps, and the text is that of its world, and legal. Each thread's calls stand
 -- among the entries in the order of its commands, where their fronts say.
 pub record IsOutput (script : Reading) (replay : Replay) (text : List ℕ) : Type 0 where
   pub ends : ends_within script replay ≡ true
   pub told : text ≡ text_of_world (world_after script replay)
   pub legal : IsLegal script text
-  pub shows : Shows (world_after script replay) (entries_of (world_after script replay).told.log)
+  pub shows : Shows (world_after script replay) (shown (world_after script replay).told.log)
 
--- why a replay has no output: its steps were spent, and a thread has not ended; or memory ran out
+-- why a replay has no output: its steps were spent, and a party has not ended; or memory ran out
 abbrev pub IsStop : Reading → Replay → Status → Type 0
 IsStop script replay (StepsSpent n) = (n ≡ replay.steps) × (ends_within script replay ≡ false)
 IsStop script replay OutOfMemory = Unit {0}
@@ -86,7 +88,7 @@ pub record ReadsUnbuilt (old new : Option (List ℕ)) : Type 0 where
   pub spells : IsScript bytes script
   pub unbuilt : ¬ (IsBuilt script)
 
--- the source was read to its end, and all threads of its script have not ended within the steps
+-- the source was read to its end, and the parties of its script have not all ended within the steps
 pub record ReadsLonger (old new : Option (List ℕ)) (replay : Replay) : Type 0 where
   pub script : Reading
   pub read : ReadsScript old new script
@@ -113,7 +115,7 @@ pub record Asks (words : List (List ℕ)) (old new : Option (List ℕ)) (text : 
   pub read : ReadsScript old new script
   pub output : IsOutput script replay text
 
--- The words ask for so many steps of the script that was read to the end of the source, and a thread has not ended within them.
+-- The words ask for so many steps of the script that was read to the end of the source, and a party has not ended within them.
 pub record Spends (words : List (List ℕ)) (old new : Option (List ℕ)) (n : ℕ) : Type 0 where
   pub replay : Replay
   pub replay_is : request_of words ≡ Ok replay

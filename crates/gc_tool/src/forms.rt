@@ -240,7 +240,7 @@ fn is_built(script: &Script) -> bool
     requires { Fits script.now }
     ensures { IsTrue result ↔ grammar.IsBuilt script.now }
 {
-    script.cycles == 0 && have_room(script.layout.passes(), &script.lines)
+    have_room(script.layout.passes(), &script.lines)
 }
 
 /// The script that the bytes spell.

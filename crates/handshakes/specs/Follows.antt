@@ -1,16 +1,16 @@
 -- What a pass does with a field word that it has loaded.
-use Rattle.std.specs.Prelude.{◌≡◌, ◌≢◌, ℕ, ◌<◌, false, Option, Some, None, refl}
-use Rattle.std.proofs.Common.{lit<, arith}
+use Rattle.std.specs.Prelude.{◌≡◌, ◌≢◌, ℕ, ◌<◌, ◌≤◌, false, Option, Some, None, refl}
+use Rattle.std.proofs.Common.{lit<, lit≤, arith}
 use Rattle.call_steps.specs.declared.step.Step.{Step}
 use Rattle.call_steps.specs.declared.step.Step.TheVariants.{Load, Store, Ended}
 use Rattle.heap_words.specs.declared.field_word.FieldWord.{FieldWord}
-use Rattle.heap_words.specs.declared.field_word.FieldWord.TheVariants.{Link}
+use Rattle.heap_words.specs.declared.field_word.FieldWord.TheVariants.{Num, Link}
 use Rattle.object_headers.specs.declared.header.State.{State}
 use Rattle.object_headers.specs.declared.header.State.TheVariants.{Forward}
 use Rattle.object_headers.specs.declared.header.Header.{Header}
 use Rattle.object_headers.specs.Headers.{header_at}
 use Rattle.handshakes.specs.declared.phase_word.Phase.{Phase}
-use Rattle.handshakes.specs.declared.phase_word.Phase.TheVariants.{Fix}
+use Rattle.handshakes.specs.declared.phase_word.Phase.TheVariants.{Free, Mark, Confirm, Copy, Fix, Retired}
 use Rattle.handshakes.specs.declared.follow.FollowEnd.{FollowEnd}
 use Rattle.handshakes.specs.declared.follow.FollowMachine.{FollowMachine}
 use Rattle.handshakes.specs.declared.follow.FollowMachine.TheVariants as follow
@@ -49,6 +49,16 @@ left_of (follow.Ended e) = 0
 abbrev pub end_of : FollowMachine → Option FollowEnd
 end_of (follow.Header birth at) = None
 end_of (follow.Ended e) = Some e
+
+-- it takes at most 4 steps
+pub follow_of-left : (phase : Phase) (word : FieldWord) → left_of (follow_of phase word) ≤ 4
+follow_of-left Free word = lit≤ tt
+follow_of-left Mark word = lit≤ tt
+follow_of-left Confirm word = lit≤ tt
+follow_of-left Copy word = lit≤ tt
+follow_of-left Fix (Num n) = lit≤ tt
+follow_of-left Fix (Link birth at) = lit≤ tt
+follow_of-left Retired word = lit≤ tt
 
 pub blind_of : (m : FollowMachine) (at put n : ℕ) → asks_of m ≡ Store at put → fed_of m n ≡ fed_of m 0
 blind_of (follow.Header birth place) at put n e = absurd cc

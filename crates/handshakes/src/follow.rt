@@ -67,7 +67,15 @@ impl FollowMachine {
         ensures machine { result ≡ follow_of (phase_word_at acked).phase word }
         ensures steps { left_of result ≤ 4 }
     {
-        match (phase_at(acked).phase, word) {
+        FollowMachine::in_phase(phase_at(acked).phase, word)
+    }
+
+    /// The work on a word that was loaded by a pass which has acknowledged this phase.
+    pub fn in_phase(phase: Phase, word: FieldWord) -> FollowMachine
+        ensures machine { result ≡ follow_of phase word }
+        ensures steps { left_of result ≤ 4 }
+    {
+        match (phase, word) {
             (Phase::Fix, FieldWord::Link { birth, at }) => FollowMachine::Header { birth, at },
             _ => FollowMachine::Ended(FollowEnd {
                 word,
@@ -129,7 +137,10 @@ impl CallMachine for FollowMachine {
 
     ghost falls = { falls_of };
 
-    fn left(&self) -> u32 {
+    fn left(&self) -> u32
+        ensures bound { result ≡ left_of self.now }
+        ensures few { result ≤ 4 }
+    {
         match self {
             FollowMachine::Header { .. } => 1,
             FollowMachine::Ended(_) => 0,

@@ -10,8 +10,9 @@ ghost use Rattle.gc_cycle.specs.Lawful.{Lawful, rooms_of, room_of as room_of_com
 ghost use Rattle.gc_cycle.specs.Worlds.{opening_words as opening_words_of, opening_registers as opening_registers_of, fresh_pass as fresh_pass_of, opening_pass as opening_pass_of, opening_passes as opening_passes_of, opening_state};
 
 use super::World;
+use crate::collector::{Awaited, CollectorMachine};
 use crate::commands::Commands;
-use crate::settling::poll_before;
+use crate::settling::{poll_before, retirement};
 use crate::told::Told;
 use barriers::{PassMachine, PassRecord, Room};
 use call_steps::{OutOfMemory, PlainWords, Step};
@@ -86,7 +87,7 @@ fn fresh_pass(layout: &Layout, party: u32) -> PassRecord
     }
 }
 
-/// A pass before its first command, if it has one.
+/// A pass before its first command, or before it retires.
 fn opening_pass(layout: &Layout, commands: &Commands, party: u32) -> PassRecord
     requires layout { IsLayout layout.now }
     requires pass { IsPass layout.now party }
@@ -94,13 +95,12 @@ fn opening_pass(layout: &Layout, commands: &Commands, party: u32) -> PassRecord
     ensures { result ≡ opening_pass_of layout.now (commands_at commands.now party) party }
 {
     let pass = fresh_pass(layout, party);
-    if commands.count(party) == 0 {
-        return pass;
-    }
-    PassRecord {
-        machine: poll_before(layout, pass),
-        ..pass
-    }
+    let machine = if commands.count(party) == 0 {
+        retirement(layout, pass)
+    } else {
+        poll_before(layout, pass)
+    };
+    PassRecord { machine, ..pass }
 }
 
 /// The passes of all threads.
@@ -180,12 +180,15 @@ impl World {
         let words = opening_words(alloc, &layout)?;
         let commands = Commands::of_lines(alloc, &script.lines, layout.passes())?;
         let passes = opening_passes(alloc, &layout, &commands)?;
+        let collector = CollectorMachine::new(&layout, script.cycles);
         let told = Told::opening(alloc, &commands)?;
         Ok(World {
             layout,
             commands,
             words,
             passes,
+            collector,
+            awaited: Awaited::NONE,
             told,
         })
     }

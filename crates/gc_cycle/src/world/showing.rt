@@ -1,12 +1,18 @@
 //! What a world shows.
 
-ghost use Rattle.std.specs.Prelude.{◌≡◌, IfOk};
+ghost use Rattle.std.specs.Prelude.{◌≡◌, ◌≢◌, ◌≤◌, ◌⊎◌, ◌↔◌, true, IfOk};
+ghost use Rattle.heap_words.specs.Layouts.{IsPass, ack_at};
+ghost use Rattle.call_steps.specs.StepLaws.{reading};
+ghost use Rattle.handshakes.specs.PhaseWords.{retired_word};
+ghost use Rattle.gc_cycle.specs.Collectors.{announced_of, before_of, passed_of};
+ghost use Rattle.gc_cycle.specs.Worlds.{pass_at, is_idle};
 ghost use Rattle.heap_script.specs.AnswerLists.{lists_of};
 ghost use Rattle.gc_cycle.specs.Lawful.{Lawful};
 ghost use Rattle.gc_cycle.specs.Runs.{Shows};
 
 use super::World;
 use crate::arranging::arrange;
+use crate::collector::Awaited;
 use crate::told::Again;
 use call_steps::{OutOfMemory, PlainWords};
 use heap_history::Entry;
@@ -29,6 +35,28 @@ impl World {
         ensures { lists_of result.now ≡ self.now.told.answers }
     {
         self.told.answers()
+    }
+
+    /// What a thread has acknowledged: Retired exactly where it has ended, and otherwise the announced phase word or the
+    /// one announced before it. It is the announced one where the collector's await has passed the thread.
+    pub fn acknowledged(&self, thread: u32) -> u64
+        requires lawful { Lawful self.now }
+        requires thread { IsPass self.now.layout thread }
+        ensures word { result ≡ reading self.now.words (ack_at thread) }
+        ensures retired { (result ≡ retired_word) ↔ (is_idle (pass_at self.now thread).machine ≡ true) }
+        ensures running { result ≢ retired_word
+            → (result ≡ announced_of self.now.collector) ⊎ (result ≡ before_of self.now.collector) }
+        ensures passed { result ≢ retired_word → thread ≤ passed_of self.now.collector
+            → result ≡ announced_of self.now.collector }
+    {
+        self.passes[thread as usize - 1].view.acked
+    }
+
+    /// How many changes there were when the await of each announcement of the running cycle ended.
+    pub fn awaited(&self) -> Awaited
+        ensures { result ≡ self.now.awaited }
+    {
+        self.awaited
     }
 
     /// The refused tries of each command, thread 1's first.

@@ -27,15 +27,15 @@ fn world_of(rt: &impl Abort, alloc: Global, script: &Script) -> Result<World, Ou
     World::new(alloc, script)
 }
 
-/// The world of the text of a script of two threads.
-fn two_threads(rt: &impl Abort, alloc: Global, text: &[u8]) -> Result<World, Fail>
-    ensures { IfOk result (λ w. Lawful w × (w.layout.passes ≡ 2)) }
+/// The world of the text of a script of so many threads.
+fn world_of_text(rt: &impl Abort, alloc: Global, threads: u32, text: &[u8]) -> Result<World, Fail>
+    ensures { IfOk result (λ w. Lawful w × (w.layout.passes ≡ threads)) }
 {
     assert!(rt; text.len() < 1_000);
     let script = read_script(alloc, text)?;
-    assert_eq!(rt; script.layout.passes(), 2);
+    assert_eq!(rt; script.layout.passes(), threads);
     let world = world_of(rt, alloc, &script)?;
-    assert!(rt; world.layout().passes() == 2);
+    assert!(rt; world.layout().passes() == threads);
     Ok(world)
 }
 
@@ -62,7 +62,7 @@ fn one_of_two_exchanges_wins(rt: HostRuntime) -> Result<(), Fail> {
     let alloc = rt.alloc();
     let text = b"heap 2 threads 1 quota 2 pool 16 wide 0 cycles\n1 cas a h.0 0 1\n2 cas a h.0 0 2";
     for schedule in [Schedule::Solo, Schedule::Even] {
-        let mut world = two_threads(&rt, alloc, text)?;
+        let mut world = world_of_text(&rt, alloc, 2, text)?;
         assert_eq!(rt; world.run(schedule, 3), Err(StepsSpent { n: 3 }));
         assert_eq!(rt; world.run(schedule, 1_000), Ok(()));
         let entries = world.history(alloc)?;
@@ -103,11 +103,14 @@ fn an_exchange_meets_a_write(rt: HostRuntime) -> Result<(), Fail> {
             Answer::Done,
         ),
     ] {
-        let mut world = two_threads(&rt, alloc, text)?;
+        let mut world = world_of_text(&rt, alloc, 2, text)?;
         assert!(rt; order.len() < 20 && order.iter().all(|party| 1 <= *party && *party <= 2));
         assert_eq!(rt; world.play(order), order.len() as u32);
-        assert_eq!(rt; world.turn(1), Turn::Ended);
+        assert_eq!(rt; world.turn(3), Turn::Idle);
         assert_answers(&rt, &world, 1, &[answer]);
+        assert_eq!(rt; world.run(Schedule::Solo, 20), Ok(()));
+        assert_eq!(rt; world.turn(1), Turn::Ended);
+        assert_eq!(rt; world.turn(3), Turn::Ended);
         assert!(rt; world.agains().iter().all(|again| again.raced == 0));
     }
     Ok(())
@@ -115,9 +118,10 @@ fn an_exchange_meets_a_write(rt: HostRuntime) -> Result<(), Fail> {
 
 #[test]
 fn goes_to_a_step(rt: HostRuntime) -> Result<(), Fail> {
-    let mut world = two_threads(
+    let mut world = world_of_text(
         &rt,
         rt.alloc(),
+        2,
         b"heap 2 threads 1 quota 2 pool 16 wide 0 cycles\n1 cas a h.0 0 5\n1 poll\n2 poll",
     )?;
     // The words before region 0, and its header.
@@ -133,7 +137,201 @@ fn goes_to_a_step(rt: HostRuntime) -> Result<(), Fail> {
     assert!(rt; !world.to(1, Step::Load { at: 1 }, 1));
     assert_eq!(rt; world.words().word(at), 5);
     assert_eq!(rt; world.next(1), Step::Load { at: 0 });
+
+    // Behind the poll eight registers are stored, and the acknowledgement.
+    assert!(rt; !world.to(1, Step::Ended, 9));
     assert!(rt; world.to(1, Step::Ended, 1));
+    Ok(())
+}
+
+/// All schedules that are tried: `solo`, `even` and fifty numbers.
+fn schedule(index: u64) -> Schedule {
+    match index {
+        0 => Schedule::Solo,
+        1 => Schedule::Even,
+        number => Schedule::Drawn(number),
+    }
+}
+
+/// Under every schedule the script of so many threads has this history, and thread 1 these answers.
+fn expect_always(
+    rt: &impl Abort,
+    alloc: Global,
+    threads: u32,
+    text: &[u8],
+    history: &[Entry],
+    answers: &[Answer],
+) -> Result<(), Fail> {
+    for index in 0..52 {
+        let mut world = world_of_text(rt, alloc, threads, text)?;
+        assert_eq!(rt; world.run(schedule(index), 10_000), Ok(()), "{index}");
+        let entries = world.history(alloc)?;
+        assert_eq!(rt; entries.as_slice(), history, "{index}");
+        assert_answers(rt, &world, 1, answers);
+        assert!(rt;
+            world
+                .agains()
+                .iter()
+                .all(|again| again.raced == 0 && again.busy == 0)
+        );
+    }
+    Ok(())
+}
+
+/// The first object of thread 1.
+const FIRST: u32 = 524_289;
+
+/// A cycle beside it changes nothing of what a thread is told.
+#[test]
+fn a_cycle_beside_a_thread_is_not_told(rt: HostRuntime) -> Result<(), Fail> {
+    let alloc = rt.alloc();
+    let history = [
+        Entry {
+            call: Call::NewObject {
+                pass: 1,
+                birth: FIRST,
+                len: 2,
+            },
+            reply: Reply::Made,
+        },
+        Entry {
+            call: Call::Write {
+                pass: 1,
+                object: FIRST,
+                field: 0,
+                value: Value::Object(1),
+            },
+            reply: Reply::Wrote,
+        },
+        Entry {
+            call: Call::Read {
+                pass: 1,
+                object: FIRST,
+                field: 0,
+            },
+            reply: Reply::Got(Value::Object(1)),
+        },
+        Entry {
+            call: Call::Exchange {
+                pass: 1,
+                object: FIRST,
+                field: 0,
+                expected: Value::Num(0),
+                value: Value::Num(5),
+            },
+            reply: Reply::Differs(Value::Object(1)),
+        },
+    ];
+    let answers = [
+        Answer::Made(FIRST),
+        Answer::Ok,
+        Answer::Got(Value::Object(1)),
+        Answer::Differs(Value::Object(1)),
+    ];
+    for text in [
+        b"heap 1 threads 1 quota 2 pool 16 wide 0 cycles\n1 new a 2\n1 put a.0 h\n1 get b a.0\n1 cas c a.0 0 5".as_slice(),
+        b"heap 1 threads 1 quota 2 pool 16 wide 1 cycles\n1 new a 2\n1 put a.0 h\n1 get b a.0\n1 cas c a.0 0 5",
+    ] {
+        expect_always(&rt, alloc, 1, text, &history, &answers)?;
+    }
+    Ok(())
+}
+
+/// A thread without a command retires while the collector awaits it.
+#[test]
+fn a_thread_without_commands_retires(rt: HostRuntime) -> Result<(), Fail> {
+    let write = Entry {
+        call: Call::Write {
+            pass: 1,
+            object: 1,
+            field: 0,
+            value: Value::Num(7),
+        },
+        reply: Reply::Wrote,
+    };
+    expect_always(
+        &rt,
+        rt.alloc(),
+        2,
+        b"heap 2 threads 1 quota 2 pool 16 wide 1 cycles\n1 put h.0 7",
+        &[write],
+        &[Answer::Ok],
+    )
+}
+
+/// A thread polls so often, and retires in the middle of a handshake.
+#[test]
+fn a_thread_retires_between_announcements(rt: HostRuntime) -> Result<(), Fail> {
+    let alloc = rt.alloc();
+    let mut text = String::from_str(alloc, "heap 1 threads 1 quota 2 pool 16 wide 1 cycles\n")?;
+    let mut answers = Vec::new(alloc);
+    for _ in 0..6 {
+        expect_always(&rt, alloc, 1, text.as_bytes(), &[], &answers)?;
+        text.push_str("1 poll\n")?;
+        answers.push(Answer::Ok)?;
+    }
+    Ok(())
+}
+
+/// The collector announces this word next, and two turns of the thread behind it acknowledge it: the load of the phase
+/// word and the store.
+fn expect_acknowledged(rt: &impl Abort, world: &mut World, put: u64)
+    requires lawful { Lawful world.old }
+    requires passes { world.old.layout.passes ≡ 1 }
+    ensures lawful { Lawful world.new }
+    ensures passes { world.new.layout.passes ≡ 1 }
+{
+    let acknowledgement = 3;
+    assert!(rt; world.to(2, Step::Store { at: 0, put }, 2), "{put}");
+    assert_eq!(rt; world.play(&[2, 1, 1]), 3, "{put}");
+    assert_eq!(rt; world.words().word(acknowledgement), put);
+    assert_eq!(rt; world.acknowledged(1), put);
+}
+
+#[test]
+fn each_announcement_is_acknowledged(rt: HostRuntime) -> Result<(), Fail> {
+    let mut world = world_of_text(
+        &rt,
+        rt.alloc(),
+        1,
+        b"heap 1 threads 1 quota 2 pool 16 wide 1 cycles\n1 drop h\n1 poll\n1 poll\n1 poll\n1 poll\n1 poll",
+    )?;
+
+    // Mark, Confirm in round 1, Copy, Fix and Free of cycle 1.
+    expect_acknowledged(&rt, &mut world, 9);
+    expect_acknowledged(&rt, &mut world, 34_359_738_378);
+    expect_acknowledged(&rt, &mut world, 11);
+    expect_acknowledged(&rt, &mut world, 12);
+    expect_acknowledged(&rt, &mut world, 8);
+    assert!(rt; world.to(2, Step::Ended, 1));
+    assert_eq!(rt; world.turn(2), Turn::Idle);
+    assert_eq!(rt; world.run(Schedule::Solo, 10), Ok(()));
+    assert_eq!(rt; world.words().word(3), 5);
+    assert_eq!(rt; world.turn(2), Turn::Ended);
+    Ok(())
+}
+
+/// The awaits of a cycle that is played behind a write have ended where there was one change.
+#[test]
+fn awaits_end_behind_what_was_changed(rt: HostRuntime) -> Result<(), Fail> {
+    let mut world = world_of_text(
+        &rt,
+        rt.alloc(),
+        1,
+        b"heap 1 threads 1 quota 2 pool 16 wide 1 cycles\n1 put h.0 5",
+    )?;
+    assert_eq!(rt; world.awaited(), Awaited::NONE);
+    assert_eq!(rt; world.run(Schedule::Solo, 100), Ok(()));
+    assert_eq!(rt;
+        world.awaited(),
+        Awaited {
+            mark: 1,
+            confirm: 1,
+            copy: 1,
+            fix: 1,
+            free: 1
+        }
+    );
     Ok(())
 }
 
@@ -206,11 +404,11 @@ fn histories_of_drawn_orders_are_accepted(rt: HostRuntime) -> Result<(), Fail> {
     for number in 0..100 {
         let script = Script {
             layout,
-            cycles: 0,
+            cycles: (number % 3) as u32,
             lines: lines(alloc, 16, number)?,
         };
         let mut world = world_of(&rt, alloc, &script)?;
-        assert_eq!(rt; world.run(Schedule::Drawn(number), 10_000), Ok(()));
+        assert_eq!(rt; world.run(Schedule::Drawn(number), 20_000), Ok(()));
         let entries = world.history(alloc)?;
         assert!(rt; 20 < entries.len() && entries.len() < 1_000);
         assert_eq!(rt; check_history(alloc, &entries), Ok(()));

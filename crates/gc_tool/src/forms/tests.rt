@@ -85,10 +85,7 @@ fn reads_scripts_that_are_built(rt: HostRuntime) -> Result<(), Fail> {
             b"heap 1 threads 4 quota 8 pool 256 wide 0 cycles\n1 new a 30\n1 new a 30\n1 new a 2\n",
             Err(Status::NotBuilt),
         ),
-        (
-            b"heap 1 threads 4 quota 8 pool 256 wide 2 cycles\n",
-            Err(Status::NotBuilt),
-        ),
+        (b"heap 1 threads 4 quota 8 pool 256 wide 64 cycles\n", Ok(0)),
         (
             b"heap 1 threads 4 quota 8 pool 256 wide 2 cycles\n2 poll\n",
             fault(2, FaultKind::BadThread),

