@@ -3,7 +3,7 @@ use Rattle.std.proofs.Common.{◌≡◌, ℕ, zero, suc, ◌+◌, ◌-◌, ◌�
 use Rattle.std.specs.Prelude.{not}
 use Rattle.std.specs.List.{filter, range_with_len, All, Contains}
 use Rattle.std.proofs.lemmas.Bool.Decides.{eqb_tells}
-use Rattle.std.proofs.lemmas.Bool.{le-ltb, not-true}
+use Rattle.std.proofs.lemmas.Bool.{le-ltb}
 use Rattle.std.proofs.lemmas.List.Elements.{All-contains, filter_passes}
 use Rattle.heap_words.specs.Layouts.{Sizes, IsPass}
 use Rattle.heap_history.specs.declared.call.Call.{Call}
@@ -110,14 +110,6 @@ ready_if w q is can = kept_in (can_step w) 1 (w.layout.passes + 1) q is.0 (omega
 pub ready_is : (w : State) (q : ℕ) → Contains (ready_of w) q → IsParty w.layout q × (can_step w q ≡ true)
 ready_is w q among = (ready_is_party w q among, All-contains (λ x. can_step w x ≡ true) (ready_of w) q (filter_passes (can_step w) (range_with_len 1 (w.layout.passes + 1))) among)
 
--- a ready party is a thread or the collector
-pub ready_party : (w : State) (p : ℕ) → Contains (ready_of w) p → IsParty w.layout p
-ready_party w p among = (ready_is w p among).0
-
--- a ready thread has not ended
-pub ready_thread : (w : State) (p : ℕ) → IsPass w.layout p → Contains (ready_of w) p → is_idle (pass_at w p).machine ≡ false
-ready_thread w p is among = not-true (is_idle (pass_at w p).machine) (sym (thread_steps w p is) ∙ (ready_is w p among).1)
-
 -- ---- runs
 
 none_is : (xs : List ℕ) → is_none xs ≡ true → length xs ≡ 0
@@ -141,7 +133,7 @@ module _ (J : State → Type 0) (keeps : (w : State) (p : ℕ) → Contains (rea
 
 -- the world stays lawful
 pub turns_keep_lawful : (n : ℕ) (chooser : Chooser) (w : State) → Lawful w → Lawful (turns_of n chooser w)
-turns_keep_lawful n chooser w lw = turns_keep Lawful (λ x p among h. turn_keeps x h p (ready_party x p among)) n chooser w lw
+turns_keep_lawful n chooser w lw = turns_keep Lawful (λ x p among h. turn_keeps x h p (ready_is_party x p among)) n chooser w lw
 
 pub run_keeps : (schedule : Schedule) (steps : ℕ) (w : State) → Lawful w → Lawful (run_of schedule steps w)
 run_keeps schedule steps w lw = turns_keep_lawful steps (chooser_of schedule) w lw

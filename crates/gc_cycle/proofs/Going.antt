@@ -21,10 +21,9 @@ use Rattle.space_reclaim.specs.OwnRegions.{first_own}
 use Rattle.barriers.specs.declared.room.Room.{Room}
 use Rattle.barriers.specs.declared.pass.PassRecord.{PassRecord}
 use Rattle.barriers.specs.declared.pass.PassMachine.{PassMachine}
-use Rattle.barriers.specs.declared.pass.PassMachine.TheVariants as machine
 use Rattle.gc_cycle.specs.Settlings.{poll_before, retirement}
 use Rattle.gc_cycle.specs.Objects.{View, Laid, AllHold, Agrees, IsFresh, Holds, IsObject, AreFew}
-use Rattle.gc_cycle.specs.Tellings.{Tells, Telling, IsTold, heap_of, changes_of}
+use Rattle.gc_cycle.specs.Tellings.{Tells, Telling, heap_of, changes_of}
 use Rattle.gc_cycle.specs.Commands.{commands_at}
 use Rattle.gc_cycle.specs.TellingSteps.{with_raised}
 use Rattle.gc_cycle.specs.Worlds.{State, pass_at, answers_at, with_pass, concluded, logged, machine_behind, place_of_command}
@@ -157,10 +156,6 @@ module _ (w : State) (lw : Lawful w) (p : ℕ) (is : IsPass w.layout p) where
   -- no word has changed
   pub left_same : (words : List ℕ) → length words ≡ length w.words → ((a : ℕ) → reading words a ≡ m a) → IsLeft w p words r.view
   left_same words width same = left_low words width (λ a h. same a) (λ a h. same a) (λ q other apart. same (region_at l (first_own l q)))
-
-  -- what the pass has stored in its root words stays there
-  pub stored_same : (words : List ℕ) → ((a : ℕ) → reading words a ≡ m a) → AreStored l (reading words) p r.registers (stored_of r.machine)
-  stored_same words same i small = same (root_at l p i) ∙ thread.stored i small
 
   -- ---- a command is answered
 

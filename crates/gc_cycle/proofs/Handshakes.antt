@@ -22,7 +22,7 @@ use Rattle.gc_cycle.specs.declared.collector.CollectorMachine.{CollectorMachine}
 use Rattle.gc_cycle.specs.declared.collector.CollectorMachine.TheVariants as collector
 use Rattle.gc_cycle.specs.Collectors.{said_of, word_of, before_by, stage_before, stage_of, announced_of, before_of, passed_of, asks_of, fed_of, look, looked, awaited, behind_by, stage_at_start, collector_of}
 use Rattle.gc_cycle.specs.Handshakes.{IsStage, IsLast, IsAwait, IsCollector, Answers, AllAnswer, Keeps, Shows, Handshake}
-use Rattle.gc_cycle.proofs.CollectorLaws.{runs, fits, differs}
+use Rattle.gc_cycle.proofs.CollectorLaws.{runs, fits}
 
 -- ---- the stage that is announced
 
@@ -254,10 +254,6 @@ announced_waits l cycles (collector.Announce s) acked pass found is all in_layou
     absurd (omega arith)
 announced_waits l cycles (collector.Await s pass m) acked p found is all in_layout runs waits = ap word_of (stage_looked s pass m (awaits.end_of (awaits.fed_of m found)))
 announced_waits l cycles (collector.Done s) acked pass found is all in_layout runs waits = refl
-
--- the word before is another than the announced one
-pub before_differs : (k : CollectorMachine) → before_of k ≢ announced_of k
-before_differs k = differs (stage_of k)
 
 -- neither is the word of Retired
 pub announced_runs : (k : CollectorMachine) → announced_of k ≢ retired_word

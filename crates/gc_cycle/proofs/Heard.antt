@@ -11,15 +11,15 @@ use Rattle.heap_history.specs.declared.call.Reply.TheVariants.{NotThere}
 use Rattle.heap_history.specs.declared.call.Entry.{Entry}
 use Rattle.heap_history.specs.declared.call.Ended.{Ended}
 use Rattle.heap_history.specs.FixedHeaps.{Heap, opening, answer, after}
-use Rattle.heap_history.specs.Histories.{IsAccepted, IsHistory, IsLegal, Follows, IsNext, heap_after, heap_at, changes, is_change, made_by, between, pass_of, seen_before}
-use Rattle.heap_history.specs.HistoryLaws.{heap_after-append, heap_at-append, heap_at-length, after-look, IsHistory-changes, between-same, seen_before-le}
+use Rattle.heap_history.specs.Histories.{IsAccepted, IsLegal, Follows, IsNext, heap_after, heap_at, changes, is_change, made_by, between, pass_of, seen_before}
+use Rattle.heap_history.specs.HistoryLaws.{heap_after-append, heap_at-append, heap_at-length, after-look, between-same, seen_before-le}
 use Rattle.heap_words.specs.declared.field_word.FieldWord.{FieldWord}
 use Rattle.heap_script.specs.declared.script.Command.{Command}
 use Rattle.heap_script.specs.declared.answer.Answer.{Answer}
 use Rattle.heap_script.specs.Allowed.{IsRun, first_seat}
-use Rattle.gc_cycle.specs.Tellings.{IsTold, IsNextCall, Tells, IsPlaced, entry_of, entries_of, changes_of, heap_of, counted, of_pass, ended_in}
+use Rattle.gc_cycle.specs.Tellings.{IsTold, IsNextCall, Tells, IsPlaced, entry_of, entries_of, changes_of, heap_of, counted, of_pass, ended_in, passes_of}
 use Rattle.gc_cycle.specs.Arranged.{place_of, IsRising, arranged, shown, changes_in, AreCounted, IsAnswered, IsHeard}
-use Rattle.gc_cycle.proofs.Tellings.{passes_of, changes_of-look, changes_of-change, tells_follows, legal_of}
+use Rattle.gc_cycle.proofs.Tellings.{changes_of-look, changes_of-change, tells_follows, legal_of}
 use Rattle.gc_cycle.proofs.Arranged.{rising_arranged, All-arranged, filter-yes, filter-not, filter-arranged}
 
 -- ---- places
@@ -198,10 +198,6 @@ heard_accepted log heard =
 -- the arranged calls are told
 pub heard_told : (log : List Ended) → IsHeard log → IsTold (arranged log)
 heard_told log heard = record { accepted = heard_accepted log heard; placed = heard_placed log heard }
-
--- the changes fit the heap one after another
-pub heard_fits : (log : List Ended) → IsHeard log → IsHistory opening (changes_of log)
-heard_fits log heard = subst (IsHistory opening) (changes-shown log heard) (IsHistory-changes opening (shown log) (heard_accepted log heard))
 
 -- ---- one more call
 

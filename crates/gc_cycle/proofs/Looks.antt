@@ -38,28 +38,24 @@ use Rattle.call_steps.specs.Steps.{applied}
 use Rattle.call_steps.specs.StepLaws.{reading, applied-puts, length-applied}
 use Rattle.space_reclaim.specs.OwnRegions.{first_own}
 use Rattle.barriers.specs.declared.spot.Spot.{Spot}
-use Rattle.barriers.specs.declared.ends.ReadEnd.TheVariants as read_end
-use Rattle.barriers.specs.declared.ends.ExchangeEnd.TheVariants as exchange_end
 use Rattle.barriers.specs.declared.read.ReadMachine.TheVariants as read
 use Rattle.barriers.specs.declared.exchange.ExchangeMachine.TheVariants as exchange
-use Rattle.barriers.specs.declared.plain_exchange.PlainExchange.{PlainExchange}
 use Rattle.barriers.specs.declared.plain_exchange.PlainExchange.TheVariants as plain
 use Rattle.barriers.specs.declared.plain_exchange.Swap.{Swap}
 use Rattle.barriers.specs.declared.plain_exchange.TriesLeft.{TriesLeft}
-use Rattle.barriers.specs.declared.plain_exchange.TriesLeft.TheVariants.{Two}
 use Rattle.barriers.specs.declared.pass.PassRecord.{PassRecord}
 use Rattle.barriers.specs.declared.pass.PassMachine.{PassMachine}
 use Rattle.barriers.specs.declared.pass.PassMachine.TheVariants as machine
-use Rattle.barriers.specs.PlainExchanges.{is_expected, again}
+use Rattle.barriers.specs.PlainExchanges.{is_expected}
 use Rattle.barriers.specs.Values.{value_of}
 use Rattle.gc_cycle.specs.Settlings.{held, meant, named, settled_by, exchange_call, read_call, phase_of}
 use Rattle.gc_cycle.specs.Objects.{Holds, len_of}
 use Rattle.gc_cycle.specs.Tellings.{changes_of, heap_of}
 use Rattle.gc_cycle.specs.Commands.{commands_at}
 use Rattle.gc_cycle.specs.Worlds.{State, pass_at, answers_at, command_at, taken_in, settled_at, moved_by}
-use Rattle.gc_cycle.specs.Lawful.{Lawful, IsThread, IsCommand, IsSpotOf, IsReadAt, IsExchangeAt, IsSwapAt, no_room, made_of, IsExchangeSeen, IsReadSeen, announced_in, used_of}
+use Rattle.gc_cycle.specs.Lawful.{Lawful, IsThread, IsCommand, IsReadAt, IsExchangeAt, IsSwapAt, no_room, made_of, IsExchangeSeen, IsReadSeen, announced_in, used_of}
 use Rattle.gc_cycle.specs.Worlds as worlds
-use Rattle.gc_cycle.proofs.Tellings.{tells_look, next_look, told_push, heap_of-look}
+use Rattle.gc_cycle.proofs.Tellings.{tells_look, heap_of-look}
 use Rattle.gc_cycle.proofs.Going.{answered_still, IsLeft, few, goes_on, left_same}
 use Rattle.gc_cycle.proofs.Places as places
 

@@ -32,7 +32,6 @@ use Rattle.call_steps.specs.declared.step.Step.TheVariants.{Store}
 use Rattle.call_steps.specs.Steps.{applied}
 use Rattle.call_steps.specs.StepLaws.{reading, Put, applied-puts, length-applied}
 use Rattle.space_reclaim.specs.OwnRegions.{first_own}
-use Rattle.handshakes.specs.declared.pass_view.PassView.{PassView}
 use Rattle.barriers.specs.declared.ends.NewEnd.TheVariants as new_end
 use Rattle.barriers.specs.declared.new_object.Placement.{Placement}
 use Rattle.barriers.specs.declared.new_object.NewMachine.TheVariants as make
@@ -42,14 +41,14 @@ use Rattle.barriers.specs.declared.pass.PassMachine.TheVariants as machine
 use Rattle.barriers.specs.NewObjects.{next_birth, new_header, placed}
 use Rattle.barriers.specs.Values.{value_of}
 use Rattle.gc_cycle.specs.Objects.{View, Laid, AllHold, Agrees, IsFresh, Holds, IsObject, AreFew, base}
-use Rattle.gc_cycle.specs.Tellings.{Tells, IsTold, changes_of, heap_of}
+use Rattle.gc_cycle.specs.Tellings.{Tells, changes_of, heap_of}
 use Rattle.gc_cycle.specs.Commands.{commands_at}
 use Rattle.gc_cycle.specs.Worlds.{State, pass_at, answered, concluded, moved_by, stepped, fed, settled_at}
 use Rattle.gc_cycle.specs.Lawful.{Lawful, IsThread, IsNewAt, IsPlacedAt, made_of, used_of, acked_of, announced_in}
 use Rattle.gc_cycle.proofs.Frames.{Onward, made_here, made_there, used_here, used_there}
 use Rattle.gc_cycle.proofs.Going.{after_answer, going_on, telling, handshake_low, put_same, root_before}
 use Rattle.gc_cycle.proofs.Going as going
-use Rattle.gc_cycle.proofs.Tellings.{told_push, next_change, heap_of-change, tells_change}
+use Rattle.gc_cycle.proofs.Tellings.{next_change, heap_of-change, tells_change}
 use Rattle.gc_cycle.proofs.Views.{grown, at_here, at_there, zeros_here, fields_kept, other_birth, is_new_or_old, object_grows, new_is_object, laid_new, all_hold_of, all_hold_new, base_inside}
 
 map-replicate : {X Y : Type 0} (f : X → Y) (n : ℕ) (x : X) → map f (replicate n x) ≡ replicate n (f x)

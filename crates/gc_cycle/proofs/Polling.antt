@@ -1,9 +1,8 @@
 -- Turns of a poll: it finds its phase acknowledged, or does the phase's work and acknowledges it.
-use Rattle.std.proofs.Common.{◌≡◌, ◌≢◌, ℕ, ◌+◌, ◌-◌, ◌<◌, ◌≤◌, Bool, true, false, List, [], ◌∷◌, length, get_or, set, drop, Option, Some, None, refl, sym, ap, ◌∙◌, subst, arith, inl, inr, lit≤, lit<, eqb, cond, zero, suc}
-use Rattle.std.proofs.lemmas.Bool.{eq-eqb, eqb-true, ne_eqb}
-use Rattle.std.proofs.lemmas.Bool.Decides.{eqb_tells}
+use Rattle.std.proofs.Common.{◌≡◌, ◌≢◌, ℕ, ◌+◌, ◌<◌, Bool, true, false, List, [], ◌∷◌, length, get_or, set, drop, Some, refl, sym, ap, ◌∙◌, subst, arith, inr, eqb, cond, zero, suc}
+use Rattle.std.proofs.lemmas.Bool.{eq-eqb, ne_eqb}
 use Rattle.std.proofs.lemmas.List.{set-get_or}
-use Rattle.heap_words.specs.Layouts.{Sizes, IsPass, words_of, phase_at, ack_at, root_at, region_at, first_word}
+use Rattle.heap_words.specs.Layouts.{Sizes, IsPass, words_of, ack_at, root_at, region_at}
 use Rattle.heap_words.specs.declared.field_word.FieldWord.{FieldWord}
 use Rattle.heap_words.specs.declared.field_word.FieldWord.TheVariants.{Num, Link}
 use Rattle.heap_script.specs.declared.script.Command.{Command}
@@ -12,8 +11,6 @@ use Rattle.call_steps.specs.declared.step.Step.TheVariants.{Load, Store}
 use Rattle.call_steps.specs.Steps.{applied}
 use Rattle.call_steps.specs.StepLaws.{reading, Put, applied-puts, length-applied}
 use Rattle.space_reclaim.specs.OwnRegions.{first_own}
-use Rattle.handshakes.specs.declared.phase_word.Phase.{Phase}
-use Rattle.handshakes.specs.declared.phase_word.Phase.TheVariants as phases
 use Rattle.handshakes.specs.declared.phase_word.PhaseWord.{PhaseWord}
 use Rattle.handshakes.specs.declared.pass_view.PassView.{PassView}
 use Rattle.handshakes.specs.declared.poll.Poll.{Poll}
@@ -28,13 +25,11 @@ use Rattle.barriers.specs.declared.pass.PassMachine.{PassMachine}
 use Rattle.barriers.specs.declared.pass.PassMachine.TheVariants as machine
 use Rattle.gc_cycle.specs.declared.collector.Announcement.{Announcement}
 use Rattle.gc_cycle.specs.declared.collector.Announcement.TheVariants as announcements
-use Rattle.gc_cycle.specs.declared.collector.Stage.{Stage}
 use Rattle.gc_cycle.specs.Collectors.{said_of, said_in, stage_of, cycles_of, announced_of}
 use Rattle.gc_cycle.specs.Collectors as collectors
-use Rattle.gc_cycle.specs.Settlings.{held}
 use Rattle.gc_cycle.specs.Commands.{commands_at}
-use Rattle.gc_cycle.specs.Worlds.{State, pass_at, answers_at, answered, command_at, settled_at, with_pass, moved_by}
-use Rattle.gc_cycle.specs.Lawful.{Lawful, IsThread, IsAt, IsCommand, IsInHand, IsFollowing, no_room, made_of, acked_of, announced_in}
+use Rattle.gc_cycle.specs.Worlds.{State, pass_at, answers_at, command_at, settled_at, moved_by}
+use Rattle.gc_cycle.specs.Lawful.{Lawful, IsThread, IsAt, IsInHand, IsFollowing, no_room, made_of, acked_of, announced_in}
 use Rattle.gc_cycle.proofs.CollectorLaws.{fits}
 use Rattle.gc_cycle.proofs.Handshakes.{announced_runs, stage_small, handshake_answer}
 use Rattle.gc_cycle.proofs.Facts.{get_below}

@@ -31,8 +31,6 @@ use Rattle.space_reclaim.specs.Claims.{round_of, region_of}
 use Rattle.space_reclaim.specs.declared.claim.Round.{Round}
 use Rattle.space_reclaim.specs.declared.region_word.RegionWord.TheVariants.{Taken}
 use Rattle.space_reclaim.specs.RegionWords.{word_of_region}
-use Rattle.handshakes.specs.declared.poll.Poll.{Poll}
-use Rattle.handshakes.specs.declared.poll.PollMachine.TheVariants as poll
 use Rattle.handshakes.specs.Polls as polls
 use Rattle.barriers.specs.declared.room.Room.{Room}
 use Rattle.barriers.specs.declared.spot.Spot.{Spot}
@@ -47,7 +45,6 @@ use Rattle.barriers.specs.declared.plain_exchange.Swap.{Swap}
 use Rattle.barriers.specs.declared.plain_exchange.TriesLeft.{TriesLeft}
 use Rattle.barriers.specs.declared.plain_exchange.TriesLeft.TheVariants.{Two, One, Zero}
 use Rattle.barriers.specs.declared.plain_exchange.PlainExchange.TheVariants as plain
-use Rattle.barriers.specs.declared.ends.ReadEnd.TheVariants as read_end
 use Rattle.barriers.specs.declared.ends.WriteEnd.TheVariants as write_end
 use Rattle.barriers.specs.declared.ends.TryRefusal.TheVariants as refusal
 use Rattle.barriers.specs.declared.pass.PassRecord.{PassRecord}
@@ -66,11 +63,11 @@ use Rattle.gc_cycle.specs.Commands.{commands_at}
 use Rattle.gc_cycle.specs.Worlds as worlds
 use Rattle.gc_cycle.specs.Worlds.{State, pass_at, answers_at, command_at, settled_at, taken_in, concluded, with_pass, moved_by}
 use Rattle.gc_cycle.specs.Lawful.{Lawful, IsThread, IsAt, IsUnclaimed, IsCommand, IsRoom, IsNewAt, IsClaimAt, IsPlacedAt, IsSpotOf, IsReadAt, IsWriteAt, IsExchangeAt, IsSwapAt, no_room, made_of, room_of, IsAcked, announced_in, stored_of}
-use Rattle.gc_cycle.proofs.Facts.{get_below, below_of_get, sum_by-drop, held_holds, refl_le}
+use Rattle.gc_cycle.proofs.Facts.{below_of_get, sum_by-drop, held_holds, refl_le}
 use Rattle.gc_cycle.proofs.Tellings.{tells_none, no_call_seen}
 use Rattle.gc_cycle.proofs.Views.{bases_apart}
 use Rattle.gc_cycle.proofs.Going.{few_by, goes_on, races, answered_still, IsLeft, left_low, left_same}
-use Rattle.gc_cycle.proofs.Places.{loaded_same, loaded_width, inside, phase_inside, fits_command, seat_held, object_of, header_len, header_inside, place_inside, heap_len}
+use Rattle.gc_cycle.proofs.Places.{loaded_same, loaded_width, inside, fits_command, seat_held, object_of, header_len, header_inside, place_inside, heap_len}
 
 -- the command that a pass is at, where it is known
 pub settled_with : (w : State) (p : ℕ) (r : PassRecord) (o known : Option Command) → o ≡ known → Lawful (settled_at w p r known) → Lawful (settled_at w p r o)

@@ -1,20 +1,18 @@
 -- Turns of a retirement.
 use Rattle.gc_cycle.proofs.Facts.{refl_le}
-use Rattle.std.proofs.Common.{◌≡◌, ◌≢◌, ℕ, zero, suc, ◌+◌, ◌-◌, ◌*◌, ◌<◌, ◌≤◌, Bool, true, false, List, [], ◌∷◌, length, get_or, set, map, Option, Some, None, refl, sym, ap, ◌∙◌, subst, arith, inl, inr, lit≤, lit<, eqb, cond, mul-le-mul_right}
+use Rattle.std.proofs.Common.{◌≡◌, ◌≢◌, ℕ, zero, suc, ◌+◌, ◌-◌, ◌<◌, ◌≤◌, Bool, true, false, List, [], ◌∷◌, length, get_or, map, Option, Some, None, refl, sym, ap, ◌∙◌, subst, arith, inl, inr, eqb, cond}
 use Rattle.std.specs.Prelude.{slice_get, slice_index}
 use Rattle.std.proofs.lemmas.Bool.{eq-eqb, ne_eqb, eqb-true}
 use Rattle.std.proofs.lemmas.Bool.Decides.{eqb_tells}
-use Rattle.std.proofs.Math.Decide.{dec_lt}
-use Rattle.heap_words.specs.Layouts.{Sizes, IsLayout, IsPass, words_of, regions_of, phase_at, ack_at, root_at, region_at, first_word}
+use Rattle.heap_words.specs.Layouts.{Sizes, IsPass, phase_at, ack_at, root_at, region_at}
 use Rattle.heap_words.specs.FieldWords.{word_of}
 use Rattle.heap_words.specs.declared.field_word.FieldWord.{FieldWord}
-use Rattle.heap_words.specs.declared.field_word.FieldWord.TheVariants.{Num, Link}
+use Rattle.heap_words.specs.declared.field_word.FieldWord.TheVariants.{Num}
 use Rattle.heap_script.specs.declared.script.Command.{Command}
 use Rattle.call_steps.specs.declared.step.Step.TheVariants.{Store}
 use Rattle.call_steps.specs.Steps.{applied}
 use Rattle.call_steps.specs.StepLaws.{reading, Put, applied-puts, length-applied}
 use Rattle.space_reclaim.specs.OwnRegions.{first_own}
-use Rattle.handshakes.specs.declared.pass_view.PassView.{PassView}
 use Rattle.handshakes.specs.declared.retire.Retire.{Retire}
 use Rattle.handshakes.specs.declared.retire.RetireMachine.{RetireMachine}
 use Rattle.handshakes.specs.declared.retire.RetireMachine.TheVariants as retire
@@ -26,11 +24,10 @@ use Rattle.barriers.specs.declared.pass.PassMachine.TheVariants as machine
 use Rattle.gc_cycle.specs.Collectors.{cycles_of}
 use Rattle.gc_cycle.specs.Settlings.{held}
 use Rattle.gc_cycle.specs.Commands.{commands_at}
-use Rattle.gc_cycle.specs.Worlds.{State, pass_at, answers_at, answered, command_at, settled_at, with_pass, moved_by}
-use Rattle.gc_cycle.specs.Lawful.{Lawful, IsThread, IsAt, IsUnclaimed, IsRetiring, AreStored, stored_of, stored_by, no_room, made_of, acked_of, announced_in}
+use Rattle.gc_cycle.specs.Worlds.{State, pass_at, answers_at, command_at, settled_at, with_pass, moved_by}
+use Rattle.gc_cycle.specs.Lawful.{Lawful, IsThread, IsAt, AreStored, stored_of, stored_by, no_room, made_of, acked_of, announced_in}
 use Rattle.gc_cycle.proofs.Handshakes.{handshake_answer, handshake_apart}
-use Rattle.gc_cycle.proofs.Going.{IsLeft, goes_on, left_low, put_same, handshake_low, root_before}
-use Rattle.gc_cycle.proofs.Views.{bases_apart}
+use Rattle.gc_cycle.proofs.Going.{IsLeft, goes_on, left_low, put_same}
 use Rattle.gc_cycle.proofs.Places as places
 use Rattle.gc_cycle.proofs.Quiet as quiet
 

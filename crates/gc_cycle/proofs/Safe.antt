@@ -1,14 +1,11 @@
 -- Stores are safe: nobody copies an object.
-use Rattle.std.proofs.Common.{◌≡◌, ℕ, List, refl, sym, ap, ◌∙◌, subst, inl}
+use Rattle.std.proofs.Common.{ℕ, List, refl, ap, ◌∙◌, subst, inl}
 use Rattle.std.specs.List.{All}
 use Rattle.heap_words.specs.Layouts.{Sizes}
 use Rattle.heap_words.specs.declared.field_word.FieldWord.{FieldWord}
-use Rattle.heap_words.specs.declared.field_word.FieldWord.TheVariants.{Link}
 use Rattle.heap_history.specs.declared.call.Ended.{Ended}
 use Rattle.heap_script.specs.declared.script.Command.{Command}
-use Rattle.handshakes.specs.declared.follow.FollowMachine.TheVariants as follow
 use Rattle.barriers.specs.declared.spot.Spot.{Spot}
-use Rattle.barriers.specs.declared.read.ReadMachine.TheVariants as read
 use Rattle.barriers.specs.declared.write.WriteMachine.TheVariants as write
 use Rattle.barriers.specs.declared.exchange.ExchangeMachine.TheVariants as exchange
 use Rattle.barriers.specs.declared.plain_exchange.PlainExchange.TheVariants as plain

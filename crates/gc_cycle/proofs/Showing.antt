@@ -14,10 +14,10 @@ use Rattle.heap_history.specs.FixedHeaps.{opening}
 use Rattle.heap_history.specs.Histories.{IsAccepted, changes}
 use Rattle.gc_cycle.specs.Commands.{commands_at}
 use Rattle.gc_cycle.specs.Worlds.{State, nobody, pass_at, answers_at, is_idle}
-use Rattle.gc_cycle.specs.Lawful.{Lawful, IsAcked, acked_of}
+use Rattle.gc_cycle.specs.Lawful.{Lawful, IsAcked, acked_of, made_of}
 use Rattle.gc_cycle.specs.Arranged.{shown}
 use Rattle.gc_cycle.specs.Runs.{ShowsThread, Shows}
-use Rattle.gc_cycle.proofs.Heard.{changes-shown, heard_accepted, heard_placed, tells_shown}
+use Rattle.gc_cycle.proofs.Heard.{changes-shown, heard_accepted, heard_placed, heard_legal, tells_shown}
 
 shows_thread : (w : State) → Lawful w → (party : ℕ) → IsPass w.layout party → ShowsThread w party
 shows_thread w lw party is = let tells = (lw.threads party is).tells in record {
@@ -34,6 +34,8 @@ shows_of w lw entries is = record {
   accepted = subst (IsAccepted opening) (sym is) (heard_accepted w.told.log lw.told);
   changes_are = ap changes is ∙ changes-shown w.told.log lw.told;
   placed = heard_placed w.told.log lw.told;
+  legal = heard_legal w.layout.quota w.layout.passes (made_of w) (λ p. (pass_at w p).seen) (λ p. (pass_at w p).registers) (commands_at w.commands) (answers_at w) w.told.log lw.told lw.owners
+      (λ p above below. (lw.threads p (above, below)).tells);
   owners = lw.owners;
   threads = shows_thread w lw;
 }

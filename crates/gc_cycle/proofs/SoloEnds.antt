@@ -1,7 +1,7 @@
 -- Where the lowest party takes each step, a script ends: within four steps a command and ten a thread, and as many as the collector takes behind them.
 use Rattle.std.proofs.Common.{◌≡◌, ◌≢◌, ℕ, zero, suc, ◌+◌, ◌-◌, ◌*◌, ◌<◌, ◌≤◌, ◌⊎◌, Bool, true, false, cond, List, [], ◌∷◌, ◌++◌, length, get_or, set, map, Option, Some, None, refl, sym, ap, ◌∙◌, subst, arith, lit<, lit≤, inl, inr, length-append}
 use Rattle.std.specs.Prelude.{slice_get, sum_by, not, if◌then◌else◌, ◌==◌, nat_lt}
-use Rattle.std.specs.List.{range_with_len, filter, Contains}
+use Rattle.std.specs.List.{range_with_len, Contains}
 use Rattle.std.specs.List.Sorted.{IsNonDecreasing}
 use Rattle.std.proofs.lemmas.Bool.Decides.{eqb_tells, nat_tests}
 use Rattle.std.proofs.lemmas.List.Sums.{sum_by-cons}
@@ -9,7 +9,6 @@ use Rattle.std.proofs.lemmas.List.{set-get_or}
 use Rattle.std.proofs.lemmas.List.Kept.{IsNonDecreasingBy-filter}
 use Rattle.std.proofs.lemmas.Option.{slice_get-get_or}
 use Rattle.std.proofs.lemmas.List.FromFn.{length-range_with_len, get_or-range_with_len}
-use Rattle.std.proofs.lemmas.List.Elements.{All-contains, filter_passes}
 use Rattle.std.proofs.lemmas.Bool.{le-ltb, lt-ltb, cases_lt}
 use Rattle.call_steps.specs.declared.step.Step.TheVariants.{Load}
 use Rattle.call_steps.specs.declared.step.Step.TheVariants as steps
@@ -82,7 +81,7 @@ use Rattle.gc_cycle.specs.Commands.{commands_by, commands_at, total}
 use Rattle.gc_cycle.specs.Objects.{View}
 use Rattle.gc_cycle.specs.Worlds.{State, nobody, pass_at, answers_at, answered, machine_behind, is_idle, is_done, is_collector, IsParty, can_step, taken_in, settled_at, stepped, changes_now, fed_with, fed, moved, collector_turn, turn_of, fresh_pass, opening_passes, opening_state}
 use Rattle.gc_cycle.specs.Lawful.{Lawful, IsAt, IsAcked, IsInHand, IsUnclaimed, IsClaimAt, no_room, made_of, acked_of, announced_in}
-use Rattle.gc_cycle.specs.Runs.{ready_of, is_none, is_over, turns_of, run_of}
+use Rattle.gc_cycle.specs.Runs.{ready_of, is_over, turns_of, run_of}
 use Rattle.gc_cycle.specs.Collectors.{collector_of, announced_of, passed_of, cycles_of}
 use Rattle.gc_cycle.proofs.Facts.{set_here, set_there}
 use Rattle.gc_cycle.proofs.Sums.{sum_by-le, sum_by-lt}
@@ -91,7 +90,8 @@ use Rattle.gc_cycle.proofs.Schedules.{lowest_is_ready, lowest_is_least}
 use Rattle.gc_cycle.proofs.Turning.{turn_keeps}
 use Rattle.gc_cycle.proofs.Handshakes.{passed_answers}
 use Rattle.gc_cycle.proofs.Running.{ready_is_party}
-use Rattle.gc_cycle.proofs.Playing.{turn_of-moves, turn_of-collects}
+use Rattle.gc_cycle.proofs.AllowedAnswers.{ready_if, ready_is, thread_steps, some_are}
+use Rattle.gc_cycle.proofs.Playing.{turn_of-moves, turn_of-collects, is_running, is_playing}
 use Rattle.gc_cycle.proofs.CollectorEnds.{left_of_collector, collector_falls, left_at_start, passed_from_start, free_from_start}
 
 -- ---- how many steps a thread takes at most, where no exchange is lost and nothing is followed; the last ten are those of its retirement
@@ -595,51 +595,9 @@ range_rises a n i j d before within =
 ready_rises : (w : State) → IsNonDecreasing (ready_of w)
 ready_rises w = IsNonDecreasingBy-filter (λ q. q) (can_step w) (range_with_len 1 (w.layout.passes + 1)) (range_rises 1 (w.layout.passes + 1))
 
--- what passes a test is among what it keeps
-among_behind : (keeps : Bool) (x : ℕ) (xs : List ℕ) (q : ℕ) → Contains xs q → Contains (cond keeps (x ∷ xs) xs) q
-among_behind true x xs q (k, within, here) = (suc k, omega arith, here)
-among_behind false x xs q among = among
-
-among_first : (keeps : Bool) (x : ℕ) (xs : List ℕ) → keeps ≡ true → Contains (cond keeps (x ∷ xs) xs) x
-among_first true x xs passes = (0, omega arith, refl)
-among_first false x xs passes = absurd cc
-
-among_kept : (test : ℕ → Bool) (xs : List ℕ) (k q : ℕ) → k < length xs → get_or xs k q ≡ q → test q ≡ true → Contains (filter test xs) q
-among_kept test [] k q within here passes = absurd (omega arith)
-among_kept test (x ∷ xs) zero q within here passes = subst (λ (y : ℕ). Contains (filter test (x ∷ xs)) y) here (among_first (test x) x (filter test xs) (ap test here ∙ passes))
-among_kept test (x ∷ xs) (suc k) q within here passes = among_behind (test x) x (filter test xs) q (among_kept test xs k q (omega arith) here passes)
-
--- a party that can step is one of them
-is_among : (w : State) (q : ℕ) → IsParty w.layout q → can_step w q ≡ true → Contains (ready_of w) q
-is_among w q is can =
-    let n = w.layout.passes + 1 in
-    let small : q - 1 < n = omega (arith, is.0, is.1) in
-    let here : get_or (range_with_len 1 n) (q - 1) q ≡ q = get_or-range_with_len 1 n (q - 1) q small ∙ omega (arith, is.0) in
-    among_kept (can_step w) (range_with_len 1 n) (q - 1) q (omega (arith, small, length-range_with_len 1 n)) here can
-
--- and each of them can
-among_can : (w : State) (q : ℕ) → Contains (ready_of w) q → can_step w q ≡ true
-among_can w q among = All-contains (λ x. can_step w x ≡ true) (ready_of w) q (filter_passes (can_step w) (range_with_len 1 (w.layout.passes + 1))) among
-
-some_ready : (ready : List ℕ) → is_none ready ≡ false → 0 < length ready
-some_ready [] on = absurd cc
-some_ready (q ∷ rest) on = omega arith
-
--- a thread that can step has not ended, nor has a collector that can
-thread_can : (collects done idle : Bool) → collects ≡ false → not (cond collects done idle) ≡ true → idle ≡ false
-thread_can true done idle thread can = absurd cc
-thread_can false done true thread can = absurd cc
-thread_can false done false thread can = refl
-
-collector_can : (collects done idle : Bool) → collects ≡ true → not (cond collects done idle) ≡ true → done ≡ false
-collector_can true true idle collects can = absurd cc
-collector_can true false idle collects can = refl
-collector_can false done idle collects can = absurd cc
-
+-- a thread that has not ended is one of those that can step
 thread_among : (w : State) (q : ℕ) → IsPass w.layout q → is_idle (pass_at w q).machine ≡ false → Contains (ready_of w) q
-thread_among w q is on =
-    let thread : is_collector w q ≡ false = le-ltb w.layout.passes q is.1 in
-    is_among w q (is.0, omega (arith, is.1)) (rw (thread, on) refl)
+thread_among w q is on = ready_if w q (is.0, omega (arith, is.1)) (thread_steps w q is ∙ ap not on)
 
 -- ---- alone
 
@@ -671,7 +629,7 @@ module _ (cycles : ℕ) (w : State) (lw : Lawful w) (solo : IsSolo cycles w) (on
   first = lowest (ready_of w)
 
   among : Contains (ready_of w) first
-  among = lowest_is_ready (ready_of w) (some_ready (ready_of w) on)
+  among = lowest_is_ready (ready_of w) (some_are (ready_of w) on)
 
   is_party : IsParty w.layout first
   is_party = ready_is_party w first among
@@ -683,7 +641,7 @@ module _ (cycles : ℕ) (w : State) (lw : Lawful w) (solo : IsSolo cycles w) (on
     new = moved w first
 
     runs : is_idle (pass_at w first).machine ≡ false
-    runs = thread_can (is_collector w first) (is_done w.collector) (is_idle (pass_at w first).machine) (le-ltb w.layout.passes first is_pass.1) (among_can w first among)
+    runs = is_running w first (le-ltb w.layout.passes first is_pass.1) (ready_is w first among).1
 
     -- the collector has not begun
     waits : w.collector ≡ collector_of w.layout cycles
@@ -705,7 +663,7 @@ module _ (cycles : ℕ) (w : State) (lw : Lawful w) (solo : IsSolo cycles w) (on
           | inr apart ↦
               let is : IsPass w.layout q = ((ready_is_party new q next_among).0, omega (arith, below, is_pass.1)) in
               let can : is_idle (pass_at new q).machine ≡ false =
-              thread_can (is_collector new q) (is_done new.collector) (is_idle (pass_at new q).machine) (le-ltb new.layout.passes q (omega (arith, is.1, same))) (among_can new q next_among) in
+              is_running new q (le-ltb new.layout.passes q (omega (arith, is.1, same))) (ready_is new q next_among).1 in
               let was : is_idle (pass_at w q).machine ≡ false = ap (λ (x : PassRecord). is_idle x.machine) (sym (goes.passes q is.0 apart.1)) ∙ can in
               let above : first ≤ q = lowest_is_least (ready_of w) q (ready_rises w) (thread_among w q is was) in
               omega (arith, above, below)
@@ -762,7 +720,7 @@ module _ (cycles : ℕ) (w : State) (lw : Lawful w) (solo : IsSolo cycles w) (on
 
     thread_next : Next cycles w (turn_of w first)
     thread_next =
-        let moves : turn_of w first ≡ new = turn_of-moves w first (le-ltb w.layout.passes first is_pass.1) (among_can w first among) in
+        let moves : turn_of w first ≡ new = turn_of-moves w first (le-ltb w.layout.passes first is_pass.1) (ready_is w first among).1 in
         subst (Next cycles w) (sym moves) (record {
           solo = record { threads = each_alone; collector = inl (goes.collector ∙ waits ∙ ap (λ (l : Sizes). collector_of l cycles) (sym goes.layout)) };
           less = thread_less;
@@ -790,7 +748,7 @@ module _ (cycles : ℕ) (w : State) (lw : Lawful w) (solo : IsSolo cycles w) (on
 
     collector_less : all_to_do (collector_turn w) < all_to_do w
     collector_less =
-        let undone : is_done w.collector ≡ false = collector_can (is_collector w first) (is_done w.collector) (is_idle (pass_at w first).machine) collects (among_can w first among) in
+        let undone : is_done w.collector ≡ false = is_playing w first collects (ready_is w first among).1 in
         let falls = collector_falls w.layout (cycles_of w.collector) w.words acks_ended w.collector lw.handshake.plays undone in
         omega (arith, falls)
 

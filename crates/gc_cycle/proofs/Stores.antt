@@ -2,7 +2,7 @@
 use Rattle.gc_cycle.proofs.Heard.{heard_next}
 use Rattle.gc_cycle.proofs.Going.{handshake_low, put_same, root_before}
 use Rattle.handshakes.specs.declared.phase_word.Phase.{Phase}
-use Rattle.std.proofs.Common.{◌≡◌, ◌≢◌, ℕ, ◌+◌, ◌*◌, ◌-◌, ◌<◌, ◌≤◌, ◌==◌, List, length, set, map, cond, Bool, true, Some, refl, sym, ap, ◌∙◌, subst, arith, inl, inr}
+use Rattle.std.proofs.Common.{◌≡◌, ◌≢◌, ℕ, ◌+◌, ◌*◌, ◌-◌, ◌<◌, ◌≤◌, ◌==◌, List, length, set, map, cond, true, Some, refl, sym, ap, ◌∙◌, subst, arith, inl, inr}
 use Rattle.std.proofs.lemmas.Bool.{eqb-true}
 use Rattle.std.proofs.lemmas.Bool.Decides.{eqb_tells}
 use Rattle.std.proofs.lemmas.List.{map-set}
@@ -40,15 +40,15 @@ use Rattle.barriers.specs.declared.plain_exchange.TriesLeft.{TriesLeft}
 use Rattle.barriers.specs.declared.pass.PassRecord.{PassRecord}
 use Rattle.barriers.specs.declared.pass.PassMachine.{PassMachine}
 use Rattle.barriers.specs.declared.pass.PassMachine.TheVariants as machine
-use Rattle.barriers.specs.PlainExchanges.{is_expected, lost}
+use Rattle.barriers.specs.PlainExchanges.{is_expected}
 use Rattle.barriers.specs.Values.{value_of}
 use Rattle.gc_cycle.specs.Settlings.{held, meant, named, exchange_call}
 use Rattle.gc_cycle.specs.Objects.{View, Laid, Holds, AllHold, Agrees, IsFresh, IsObject, len_of}
 use Rattle.gc_cycle.specs.Tellings.{changes_of, heap_of}
 use Rattle.gc_cycle.specs.Commands.{commands_at}
 use Rattle.gc_cycle.specs.Worlds.{State, pass_at, answers_at, concluded, moved_by}
-use Rattle.gc_cycle.specs.Lawful.{Lawful, IsThread, IsCommand, IsSpotOf, IsWriteAt, IsSwapAt, made_of, used_of, acked_of, announced_in}
-use Rattle.gc_cycle.proofs.Tellings.{tells_change, next_change, told_push, heap_of-change}
+use Rattle.gc_cycle.specs.Lawful.{Lawful, IsThread, IsCommand, IsSpotOf, IsWriteAt, made_of, used_of, acked_of, announced_in}
+use Rattle.gc_cycle.proofs.Tellings.{tells_change, next_change, heap_of-change}
 use Rattle.gc_cycle.proofs.Views.{with_fields, fields_here, fields_there, laid_store, laid_ext, len_same, all_hold_store, all_hold_of, object_ext}
 use Rattle.gc_cycle.proofs.Frames.{Onward, made_same, used_same}
 use Rattle.gc_cycle.proofs.Going as going

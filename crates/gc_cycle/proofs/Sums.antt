@@ -1,6 +1,6 @@
 -- Sums over two lists, one below the other.
 use Rattle.std.proofs.Common.{◌≡◌, ℕ, zero, suc, ◌<◌, ◌≤◌, List, [], ◌∷◌, length, get_or, arith}
-use Rattle.std.specs.Prelude.{sum, sum_by}
+use Rattle.std.specs.Prelude.{sum_by}
 use Rattle.std.proofs.lemmas.List.Sums.{sum_by-cons}
 
 -- at no place above
@@ -28,8 +28,3 @@ sum_by-lt f g d e (x ∷ xs) (y ∷ ys) (suc place) lens below within less =
     let first : f x ≤ g y = below 0 (omega arith) in
     let rest : sum_by f xs < sum_by g ys = sum_by-lt f g d e xs ys place (omega arith) (λ i inside. below (suc i) (omega arith)) (omega arith) less in
     omega (arith, sum_by-cons f x xs, sum_by-cons g y ys, first, rest)
-
--- the same of numbers
-pub sum-lt : (xs ys : List ℕ) (place : ℕ) → length xs ≡ length ys → ((i : ℕ) → i < length ys → get_or xs i 0 ≤ get_or ys i 0)
-    → place < length ys → get_or xs place 0 < get_or ys place 0 → sum xs < sum ys
-sum-lt xs ys place lens below within less = sum_by-lt (λ x. x) (λ y. y) 0 0 xs ys place lens below within less

@@ -1,23 +1,22 @@
 -- What is told, with the rooms that are kept for it.
-use Rattle.std.proofs.Common.{◌≡◌, ◌≢◌, ℕ, zero, suc, ◌+◌, ◌-◌, ◌<◌, ◌≤◌, List, [], ◌∷◌, ◌++◌, length, map, take, get_or, refl, sym, ap, ◌∙◌, subst, arith, add-one, append_assoc, length-append}
+use Rattle.std.proofs.Common.{◌≡◌, ℕ, zero, suc, ◌+◌, ◌-◌, ◌<◌, ◌≤◌, List, [], ◌∷◌, ◌++◌, length, map, take, get_or, refl, sym, ap, ◌∙◌, subst, arith, add-one, append_assoc}
 use Rattle.std.specs.Prelude.{sum_by, count_by}
 use Rattle.std.specs.List.{filter, flat_map, range_with_len}
-use Rattle.std.proofs.Math.ListN.{set, length-set}
+use Rattle.std.proofs.Math.ListN.{set}
 use Rattle.std.proofs.Math.Seq.{map-set_same, take-length}
-use Rattle.std.proofs.lemmas.List.{length-map, map-id, map-set, get_or-map, get_or-set_same, get_or-set_other, flat_map_more, take_more}
-use Rattle.std.proofs.lemmas.List.Sums.{length-filter, count_by-le-length, sum_by-set}
-use Rattle.std.proofs.lemmas.List.Concat.{length-flat_map, get_or-flat_map}
-use Rattle.std.proofs.lemmas.List.FromFn.{take-map-range_with_len, length-map-range_with_len, get_or-map-range_with_len, map-range_with_len_more, length-range_with_len, get_or-range_with_len}
+use Rattle.std.proofs.lemmas.List.{length-map, map-id, map-set, get_or-map, flat_map_more, take_more}
+use Rattle.std.proofs.lemmas.List.Sums.{length-filter, count_by-le-length}
+use Rattle.std.proofs.lemmas.List.Concat.{length-flat_map}
+use Rattle.std.proofs.lemmas.List.FromFn.{take-map-range_with_len, length-map-range_with_len, map-range_with_len_more}
 use Rattle.heap_history.specs.declared.call.Ended.{Ended}
 use Rattle.heap_history.specs.Histories.{is_change}
 use Rattle.heap_script.specs.declared.script.Command.{Command}
 use Rattle.heap_script.specs.declared.answer.Answer.{Answer}
-use Rattle.gc_cycle.specs.declared.told.Again.{Again}
-use Rattle.gc_cycle.specs.Commands.{commands_at, before, total}
+use Rattle.gc_cycle.specs.Commands.{commands_at, total}
 use Rattle.gc_cycle.proofs.ByThread.{sum_by-map}
 use Rattle.gc_cycle.proofs.Sums.{sum_by-lt}
 use Rattle.gc_cycle.specs.Tellings.{entry_of, entries_of, changes_of}
-use Rattle.gc_cycle.specs.TellingSteps.{answers_at, room_at, with_answer, untried, agains_in, agains_of}
+use Rattle.gc_cycle.specs.TellingSteps.{answers_at, room_at, agains_in, agains_of}
 
 -- ---- numbers in a row
 
@@ -80,23 +79,6 @@ pub length-agains_of : (lists : List (List Command)) → length (agains_of lists
 length-agains_of lists =
     length-first_agains lists (length lists) (omega arith) ∙ ap total (take-length lists)
 
--- that of a thread's command
-pub agains_of-at : (lists : List (List Command)) (t k : ℕ) (d : Again) → 1 ≤ t → t ≤ length lists → k < length (commands_at lists t)
-    → get_or (agains_of lists) (before lists t + k) d ≡ untried t (k + 1)
-agains_of-at lists t k d least most within =
-    let pieces : ℕ → List Again = λ u. agains_in u (commands_at lists u) in
-    let threads = range_with_len 1 (length lists) in
-    let place : get_or threads (t - 1) 0 ≡ t = get_or-range_with_len 1 (length lists) (t - 1) 0 (omega arith) ∙ (let e : 1 + (t - 1) ≡ t = omega arith in e) in
-    let size : length (pieces t) ≡ length (commands_at lists t) = length-map-range_with_len (λ number. untried t number) 1 (length (commands_at lists t)) in
-    let inside : k < length (pieces (get_or threads (t - 1) 0)) = rw (place, size) within in
-    let first : take (t - 1) threads ≡ range_with_len 1 (t - 1) = take-range 1 (length lists) (t - 1) (omega arith) in
-    let count : length (flat_map pieces (take (t - 1) threads)) ≡ before lists t = rw first (length-first_agains lists (t - 1) (omega arith)) in
-    let found : get_or (flat_map pieces threads) (length (flat_map pieces (take (t - 1) threads)) + k) d ≡ get_or (pieces (get_or threads (t - 1) 0)) k d =
-    get_or-flat_map pieces threads (t - 1) k 0 d (rw length-range_with_len (omega arith)) inside in
-    let there : get_or (pieces t) k d ≡ untried t (k + 1) =
-    get_or-map-range_with_len (λ number. untried t number) 1 (length (commands_at lists t)) k (k + 1) d within (omega arith) in
-    ap (λ n. get_or (flat_map pieces threads) (n + k) d) (sym count) ∙ found ∙ ap (λ u. get_or (pieces u) k d) place ∙ there
-
 -- ---- changes
 
 -- there are no more changes than calls
@@ -126,12 +108,6 @@ room_kept f vs i v w here same = map-set_same f vs i w v (same ∙ ap f here)
 
 -- ---- answers
 
--- at first a thread has none
-pub answers_at-opening : (lists : List (List Command)) (t : ℕ) → 1 ≤ t → t ≤ length lists → answers_at (map (λ commands. []) lists) t ≡ []
-answers_at-opening lists t least most =
-    let within : t - 1 < length lists = omega arith in
-    get_or-map (λ commands. []) lists (t - 1) [] [] within
-
 -- and room for one to each of its commands
 pub room_at-opening : (lists : List (List Command)) (t : ℕ) → 1 ≤ t → t ≤ length lists → room_at (map length lists) t ≡ length (commands_at lists t)
 room_at-opening lists t least most =
@@ -139,31 +115,6 @@ room_at-opening lists t least most =
     get_or-map length lists (t - 1) [] 0 within
 
 -- ---- one more answer
-
-pub length-with_answer : (lists : List (List Answer)) (t : ℕ) (answer : Answer) → length (with_answer lists t answer) ≡ length lists
-length-with_answer lists t answer = length-set lists (t - 1) _
-
-pub answers_at-with_answer : (lists : List (List Answer)) (t : ℕ) (answer : Answer) → 1 ≤ t → t ≤ length lists
-    → answers_at (with_answer lists t answer) t ≡ answers_at lists t ++ answer ∷ []
-answers_at-with_answer lists t answer least most =
-    let within : t - 1 < length lists = omega arith in
-    get_or-set_same lists (t - 1) _ [] within
-
--- the other threads have theirs
-pub answers_at-with_other : (lists : List (List Answer)) (t u : ℕ) (answer : Answer) → 1 ≤ t → 1 ≤ u → t ≢ u
-    → answers_at (with_answer lists t answer) u ≡ answers_at lists u
-answers_at-with_other lists t u answer first second other =
-    let apart : u - 1 ≢ t - 1 = omega arith in
-    get_or-set_other lists (t - 1) (u - 1) _ [] apart
-
--- one more answer in all
-pub count-with_answer : (lists : List (List Answer)) (t : ℕ) (answer : Answer) → 1 ≤ t → t ≤ length lists
-    → sum_by length (with_answer lists t answer) ≡ sum_by length lists + 1
-count-with_answer lists t answer least most =
-    let within : t - 1 < length lists = omega arith in
-    let set_is : sum_by length (with_answer lists t answer) + length (answers_at lists t) ≡ sum_by length lists + length (answers_at lists t ++ answer ∷ []) =
-    sum_by-set length lists (t - 1) (answers_at lists t ++ answer ∷ []) [] within in
-    omega (arith, set_is, length-append (answers_at lists t) (answer ∷ []))
 
 -- where a command has no answer yet, there are fewer answers than commands
 pub answers_missing : (lists : List (List Answer)) (commands : List (List Command)) (t : ℕ) → length lists ≡ length commands

@@ -21,14 +21,14 @@ use Rattle.heap_history.specs.declared.call.Entry.{Entry}
 use Rattle.heap_history.specs.declared.call.Ended.{Ended}
 use Rattle.heap_history.specs.FixedHeaps.{Heap, opening, zeros, fields_of, field_in, value_in, is_birth_of, is_same, is_there, got, wrote, compared, write_in, answer, changed, after}
 use Rattle.heap_history.specs.Histories.{IsNext, IsHistory, IsLegal, Follows, AllFollow, heap_at, heap_after, made_by, between, change_of, is_change, changes, pass_of}
-use Rattle.heap_history.specs.HistoryLaws.{heap_at-append, heap_at-length, heap_after-append, heap_after-changes, IsNext-append, IsAccepted-append, IsHistory-changes, changes-append, slice_get-push, fields_of-new, fields_of-new_other, fields_of-write, fields_of-write_other, value_in-write, value_in-write_other_field, value_in-write_other}
+use Rattle.heap_history.specs.HistoryLaws.{heap_at-append, heap_at-length, heap_after-append, IsNext-append, IsHistory-changes, changes-append, slice_get-push, fields_of-new, fields_of-new_other, fields_of-write, fields_of-write_other, value_in-write, value_in-write_other_field, value_in-write_other}
 use Rattle.heap_script.specs.declared.script.Command.{Command}
 use Rattle.heap_script.specs.declared.script.Command.TheVariants.{New, Get, Put, Cas, Copy, Drop, Poll}
 use Rattle.heap_script.specs.declared.answer.Answer.{Answer}
 use Rattle.heap_script.specs.declared.answer.Answer.TheVariants as answers
 use Rattle.heap_script.specs.Allowed.{Seat, IsRun, IsAnswered, IsOutcome, IsNoCall, IsRefused, IsNumbered, IsAllowedThread, first_seat, seat_after, registers_after, lens_after, call_of, reply_of, on_object, held, value_of as meant}
 use Rattle.barriers.specs.Values.{value_of}
-use Rattle.gc_cycle.specs.Tellings.{Tells, IsTold, IsNextCall, IsPlaced, entry_of, entries_of, changes_of, heap_of, counted, of_pass, ended_with, ended_in}
+use Rattle.gc_cycle.specs.Tellings.{Tells, IsTold, IsNextCall, entry_of, entries_of, changes_of, heap_of, of_pass, ended_with, ended_in, passes_of}
 
 -- ---- one more ended call
 
@@ -57,33 +57,6 @@ length-look log e look = ap length (changes_of-look log e look)
 
 pub length-change : (log : List Ended) (e : Ended) → is_change e.reply ≡ true → length (changes_of (log ++ e ∷ [])) ≡ length (changes_of log) + 1
 length-change log e change = ap length (changes_of-change log e change) ∙ length-append (changes_of log) (e.call ∷ [])
-
--- ---- it stands where its front says
-
-counted_first : (e : Ended) (log : List Ended) (n : ℕ) (change : Bool) → (if change then n + 1 else n) + length (changes_of log) ≡ n + length (map (λ (d : Entry). d.call) (cond change (entry_of e ∷ filter (λ (d : Entry). is_change d.reply) (entries_of log)) (filter (λ (d : Entry). is_change d.reply) (entries_of log))))
-counted_first e log n true = omega arith
-counted_first e log n false = refl
-
--- how many changes there are with the first of them
-count_first : (e : Ended) (log : List Ended) (n : ℕ) → counted n e + length (changes_of log) ≡ n + length (changes_of (e ∷ log))
-count_first e log n = counted_first e log n (is_change e.reply)
-
-placed_push : (n : ℕ) (log : List Ended) (e : Ended) → IsPlaced n log → e.front ≡ counted (n + length (changes_of log)) e → IsPlaced n (log ++ e ∷ [])
-placed_push n [] e placed front = let none : n + 0 ≡ n = omega arith in (front ∙ ap (λ k. counted k e) none, tt)
-placed_push n (d ∷ log) e placed front = (placed.0, placed_push (counted n d) log e placed.1 (front ∙ ap (λ k. counted k e) (sym (count_first d log n))))
-
--- one more call that the heap answers so
-pub told_push : (log : List Ended) (e : Ended) → IsTold log → IsNextCall log e → IsTold (log ++ e ∷ [])
-told_push log e told next =
-    let said : answer (heap_after opening (map (λ d. d.call) (entries_of log))) e.call ≡ e.reply = ap (λ heap. answer heap e.call) (heap_after-changes opening (entries_of log) told.accepted) ∙ next.reply in
-    let start : 0 + length (changes_of log) ≡ length (changes_of log) = omega arith in
-    record {
-      accepted = rw (entries-append log e) (IsAccepted-append opening (entries_of log) (entry_of e) told.accepted said next.there);
-      placed = placed_push 0 log e told.placed (next.front ∙ ap (λ k. counted k e) (sym start));
-    }
-
-pub told_opening : IsTold []
-told_opening = record { accepted = tt; placed = tt }
 
 -- the changes of what is told fit the heap one after another
 pub history_of : (log : List Ended) → IsTold log → IsHistory opening (changes_of log)
@@ -151,9 +124,6 @@ IsNext-change_behind history thread n call reply within rest change own told =
       last = λ _. ap (λ i. slice_get (history ++ call ∷ []) i) before ∙ slice_get-push history call;
       reply = ap (λ n. answer (heap_at (history ++ call ∷ []) n) call) seen ∙ ap (λ heap. answer heap call) (heap_at-append history (call ∷ []) (length history) (omega arith) ∙ heap_at-length history) ∙ told;
     }
-
-pub next_look : (log : List Ended) (call : Call) (reply : Reply) → is_change reply ≡ false → answer (heap_of log) call ≡ reply → reply ≢ NotThere → IsNextCall log (record { call = call; reply = reply; front = length (changes_of log) })
-next_look log call reply look told there = record { front = sym (ap (λ change. if change then length (changes_of log) + 1 else length (changes_of log)) look); reply = told; there = there }
 
 pub next_change : (log : List Ended) (call : Call) (reply : Reply) → is_change reply ≡ true → answer (heap_of log) call ≡ reply → reply ≢ NotThere → IsNextCall log (record { call = call; reply = reply; front = length (changes_of log) + 1 })
 next_change log call reply change told there = record { front = sym (ap (λ b. if b then length (changes_of log) + 1 else length (changes_of log)) change); reply = told; there = there }
@@ -674,11 +644,6 @@ module _ (quota thread made seen : ℕ) (registers : List FieldWord) (commands :
   no_call_seen c a no_call = no_call_was quota (heap_of log) (heap_at (changes_of log) t.seat.seen) t.seat c a named_len no_call
 
 -- ---- a legal history
-
--- the ended calls of so many passes from this one on
-abbrev pub passes_of : ℕ → ℕ → List Ended → List (List Ended)
-passes_of zero pass log = []
-passes_of (suc k) pass log = of_pass pass log ∷ passes_of k (pass + 1) log
 
 length-passes_of : (k pass : ℕ) (log : List Ended) → length (passes_of k pass log) ≡ k
 length-passes_of zero pass log = refl

@@ -42,14 +42,6 @@ base_inside l il p is =
 
 -- ---- birth numbers
 
--- no two passes make objects of one birth number
-pub one_pass : (l : Sizes) (made : ℕ → ℕ) → AreFew l made → (p q b : ℕ) → IsPass l p → IsPass l q → IsOwn made p b → IsOwn made q b → p ≡ q
-one_pass l made few p q b is other own its = omega (arith, few p is, few q other, own.0, own.1, its.0, its.1)
-
--- the common object is no pass's own
-pub common_is_no_own : (l : Sizes) (made : ℕ → ℕ) (p b : ℕ) → IsPass l p → IsOwn made p b → b ≢ 1
-common_is_no_own l made p b is own e = omega (arith, is.0, own.0, e)
-
 -- ---- where objects lie
 
 module _ (m : ℕ → ℕ) (l : Sizes) (il : IsLayout l) (used made : ℕ → ℕ) (v : View) (laid : Laid m l used made v) where
@@ -89,10 +81,6 @@ module _ (m : ℕ → ℕ) (l : Sizes) (il : IsLayout l) (used made : ℕ → �
   objects_apart b c (inl e) (inr h) ne = inl (common_before b h.pass c e h.is_pass h.own)
   objects_apart b c (inr h) (inl g) ne = inr (common_before c h.pass b g h.is_pass h.own)
   objects_apart b c (inr h) (inr k) ne = made_apart h.pass k.pass b c h.is_pass k.is_pass h.own k.own ne
-
-  -- an object ends before the words that no pass has used yet
-  pub object_below : (b p : ℕ) → IsPass l p → IsOwn made p b → v.at b + 1 + len_of v b ≤ base l p + used p
-  object_below b p is own = laid.below p b is own
 
   -- an object lies in the regions
   pub object_above : (b : ℕ) → IsObject l made b → first_word l 0 ≤ v.at b
@@ -151,9 +139,6 @@ own_ext made made' p b same own = (own.0, omega (arith, own.1, same))
 pub object_ext : (l : Sizes) (made made' : ℕ → ℕ) → ((p : ℕ) → IsPass l p → made' p ≡ made p) → (b : ℕ) → IsObject l made b → IsObject l made' b
 object_ext l made made' same b (inl e) = inl e
 object_ext l made made' same b (inr h) = inr (record { pass = h.pass; is_pass = h.is_pass; own = own_ext made made' h.pass b (same h.pass h.is_pass) h.own })
-
-pub few_ext : (l : Sizes) (made made' : ℕ → ℕ) → ((p : ℕ) → IsPass l p → made' p ≡ made p) → AreFew l made → AreFew l made'
-few_ext l made made' same few = λ p is. omega (arith, same p is, few p is)
 
 module _ (m : ℕ → ℕ) (l : Sizes) (used made used' made' : ℕ → ℕ) (v : View)
     (uses : (p : ℕ) → IsPass l p → used' p ≡ used p) (makes : (p : ℕ) → IsPass l p → made' p ≡ made p) where
@@ -318,12 +303,6 @@ module _ (l : Sizes) (made made' : ℕ → ℕ) (p : ℕ) (is : IsPass l p)
 
   pub new_is_object : IsObject l made' (next_birth p (made p))
   new_is_object = inr (record { pass = p; is_pass = is; own = (omega arith, omega (arith, more)) })
-
-  pub few_grows : AreFew l made → made p < 262144 → AreFew l made'
-  few_grows few left = λ q other. elim (eqb_tells q p) [
-    | inl same ↦ omega (arith, ap made' same.1, more, left)
-    | inr away ↦ omega (arith, kept q other away.1, few q other)
-  ]
 
 module _ (m n : ℕ → ℕ) (l : Sizes) (il : IsLayout l) (used made used' made' : ℕ → ℕ) (p len : ℕ) (v : View) (laid : Laid m l used made v)
     (is : IsPass l p) (few : AreFew l made) (left : made p < 262144) (short : len ≤ 30) (room : used p + len + 1 ≤ 64)
@@ -513,10 +492,6 @@ module _ (l : Sizes) (made made' : ℕ → ℕ) (v v' : View)
 
   pub all_hold_of : (xs : List FieldWord) → All (Holds l made v) xs → All (Holds l made' v') xs
   all_hold_of xs all = All-weaker (Holds l made v) (Holds l made' v') holds_grows xs all
-
--- with the same objects where they stood
-pub holds_view : (l : Sizes) (made : ℕ → ℕ) (v v' : View) → ((b : ℕ) → IsObject l made b → v'.at b ≡ v.at b) → (y : FieldWord) → Holds l made v y → Holds l made v' y
-holds_view l made v v' same y h = holds_grows l made made v v' (λ b object. object) same y h
 
 pub zeros_hold : (l : Sizes) (made : ℕ → ℕ) (v : View) (len : ℕ) → All (Holds l made v) (replicate len (Num 0))
 zeros_hold l made v len = All-replicate (Holds l made v) len (Num 0) (lit< tt)

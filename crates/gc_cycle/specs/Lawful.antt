@@ -55,7 +55,7 @@ use Rattle.barriers.specs.PlainExchanges.{is_expected}
 use Rattle.barriers.specs.Spots.{spot_of}
 use Rattle.gc_cycle.specs.Settlings.{held, meant, phase_of, read_of, exchange_of}
 use Rattle.gc_cycle.specs.Objects.{View, Laid, Holds, AllHold, Agrees, IsFresh, len_of}
-use Rattle.gc_cycle.specs.Tellings.{Tells, IsTold, heap_of, changes_of}
+use Rattle.gc_cycle.specs.Tellings.{Tells, heap_of, changes_of}
 use Rattle.gc_cycle.specs.Commands.{commands_at, total}
 use Rattle.gc_cycle.specs.Worlds.{State, pass_at, answers_at, changes_now}
 

@@ -1,7 +1,7 @@
 -- Worlds played under a schedule, and what a world shows.
 use Rattle.barriers.specs.PassMachines.{sees}
 use Rattle.gc_cycle.specs.Arranged.{arranged, shown}
-use Rattle.std.specs.Prelude.{◌≡◌, ◌≢◌, ℕ, zero, suc, ◌+◌, ◌≤◌, ◌<◌, Bool, true, false, not, if◌then◌else◌, List, [], ◌∷◌, length, take, Option, Some, None}
+use Rattle.std.specs.Prelude.{◌≡◌, ◌≢◌, ℕ, zero, suc, ◌+◌, ◌≤◌, ◌<◌, Bool, true, false, if◌then◌else◌, List, [], ◌∷◌, length, take, Option, Some}
 use Rattle.std.specs.List.{filter, range_with_len, All}
 use Rattle.heap_words.specs.Layouts.{IsPass}
 use Rattle.call_steps.specs.declared.step.Step.{Step}
@@ -9,7 +9,7 @@ use Rattle.call_steps.specs.Steps.{found_by}
 use Rattle.heap_history.specs.declared.call.Entry.{Entry}
 use Rattle.heap_history.specs.declared.call.Ended.{Ended}
 use Rattle.heap_history.specs.FixedHeaps.{opening}
-use Rattle.heap_history.specs.Histories.{IsAccepted, pass_of, changes}
+use Rattle.heap_history.specs.Histories.{IsLegal, IsAccepted, pass_of, changes}
 use Rattle.heap_script.specs.Allowed.{Seat, IsRun, first_seat}
 use Rattle.barriers.specs.declared.pass.PassMachine.{PassMachine}
 use Rattle.barriers.specs.declared.pass.PassMachine.TheVariants as machine
@@ -30,7 +30,7 @@ use Rattle.gc_cycle.specs.declared.schedule.Chooser.{Chooser}
 use Rattle.gc_cycle.specs.declared.schedule.Schedule.{Schedule}
 use Rattle.gc_cycle.specs.Schedules.{chooser_of, chosen_by}
 use Rattle.gc_cycle.specs.Commands.{commands_at}
-use Rattle.gc_cycle.specs.Tellings.{entries_of, changes_of, IsPlaced, of_pass, ended_in}
+use Rattle.gc_cycle.specs.Tellings.{changes_of, IsPlaced, of_pass, ended_in, passes_of}
 use Rattle.gc_cycle.specs.TellingSteps.{with_raised}
 use Rattle.gc_cycle.specs.Worlds.{State, pass_at, answers_at, turn_of, next_of, logged, place_of_command, can_step, changes_now}
 
@@ -140,8 +140,9 @@ pub record Moves (w : State) (party : ℕ) (new : State) : Type 0 where
 -- ---- what a world shows
 
 -- The entries are the calls that have ended, arranged by their fronts: a heap whose objects never move accepts them, and each stands where its
--- front says. Each thread's answers are allowed for the changes among them: the commands that it has ended are a run, and its calls stand
--- among the entries in the order of this run, with its fronts.
+-- front says. They are a legal history: the calls of each thread stand in it in its order, none before anything that its thread had seen, and
+-- there is no other change. Each thread's answers are allowed for the changes among them: the commands that it has ended are a run, and its calls
+-- stand among the entries in the order of this run, with its fronts.
 pub record ShowsThread (w : State) (party : ℕ) : Type 0 where
   pub fronts : List ℕ
   pub seat : Seat
@@ -153,5 +154,6 @@ pub record Shows (w : State) (entries : List Entry) : Type 0 where
   pub accepted : IsAccepted opening entries
   pub changes_are : changes entries ≡ changes_of w.told.log
   pub placed : IsPlaced 0 (arranged w.told.log)
+  pub legal : IsLegal (changes_of (arranged w.told.log)) (passes_of w.layout.passes 1 (arranged w.told.log))
   pub owners : All (λ e. IsPass w.layout (pass_of e.call)) w.told.log
   pub threads : (party : ℕ) → IsPass w.layout party → ShowsThread w party

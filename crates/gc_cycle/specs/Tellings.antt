@@ -1,5 +1,5 @@
 -- What there is to tell of a world: the calls that have ended, the answers, and the tries that were refused.
-use Rattle.std.specs.Prelude.{◌≡◌, ◌≢◌, ℕ, ◌+◌, ◌≤◌, ◌==◌, if◌then◌else◌, List, [], ◌∷◌, ◌++◌, length, map, take, drop, Option, Some, None}
+use Rattle.std.specs.Prelude.{◌≡◌, ◌≢◌, ℕ, zero, suc, ◌+◌, ◌≤◌, ◌==◌, if◌then◌else◌, List, [], ◌∷◌, ◌++◌, length, map, take, drop, Option, Some, None}
 use Rattle.std.specs.List.{filter}
 use Rattle.heap_words.specs.declared.field_word.FieldWord.{FieldWord}
 use Rattle.heap_history.specs.declared.call.Call.{Call}
@@ -45,6 +45,11 @@ IsPlaced n (e ∷ es) = (e.front ≡ counted n e) × IsPlaced (counted n e) es
 -- those of one pass
 abbrev pub of_pass : ℕ → List Ended → List Ended
 of_pass pass log = filter (λ e. pass_of e.call == pass) log
+
+-- those of so many passes, from this one on
+abbrev pub passes_of : ℕ → ℕ → List Ended → List (List Ended)
+passes_of zero pass log = []
+passes_of (suc k) pass log = of_pass pass log ∷ passes_of k (pass + 1) log
 
 -- ---- the answers of a thread
 

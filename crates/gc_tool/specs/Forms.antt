@@ -1,5 +1,5 @@
 -- Which words and which inputs this program takes.
-use Rattle.std.specs.Prelude.{◌≡◌, ℕ, ◌+◌, ◌-◌, ◌^◌, ◌≤◌, List, [], ◌∷◌, Bool, true, false, nat_le, ◌&&◌, ◌||◌, if◌then◌else◌, Option, Some, None, Result, Err, is_some, option_map, codes, sum_by}
+use Rattle.std.specs.Prelude.{ℕ, ◌+◌, ◌-◌, ◌^◌, ◌≤◌, List, [], ◌∷◌, Bool, true, false, nat_le, ◌&&◌, ◌||◌, if◌then◌else◌, Option, Some, None, Result, Err, is_some, option_map, codes, sum_by}
 use Rattle.std.specs.Option.{ok_or}
 use Rattle.std.specs.Str.{bytes_eq}
 use Rattle.gc_cycle.specs.declared.schedule.Schedule.{Schedule}

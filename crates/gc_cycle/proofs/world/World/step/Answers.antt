@@ -1,5 +1,4 @@
 use Rattle.std.proofs.Common.{◌∙◌, sym}
-use Rattle.gc_cycle.specs.Worlds.{is_done, is_idle, pass_at}
 use Rattle.gc_cycle.proofs.Playing.{is_running, is_playing, party_is_pass}
 use Rattle.gc_cycle.proofs.Taking.{can_take, can_collect}
 use Rattle.gc_cycle.proofs.world.World.step.Goals as goal
