@@ -24,7 +24,7 @@ use Rattle.gc_tool.specs.Runs.{world_after, ends_within, enough_steps, text_of_w
 
 -- a script that is built is one for which a world is built
 pub is_script : (script : Reading) → IsBuilt script → IsScript script.layout (commands_by script.layout.passes script.lines)
-is_script script built = script_of script built.fits (λ t is. built.room t is.0 is.1)
+is_script script built = script_of script built.fits built.room
 
 -- its world at the start is lawful
 pub opens : (script : Reading) → IsBuilt script → Lawful (opening_state script)

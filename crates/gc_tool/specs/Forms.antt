@@ -1,12 +1,11 @@
 -- Which words and which inputs this program takes.
-use Rattle.std.specs.Prelude.{ℕ, ◌+◌, ◌-◌, ◌^◌, ◌≤◌, List, [], ◌∷◌, Bool, true, false, nat_le, ◌&&◌, ◌||◌, if◌then◌else◌, Option, Some, None, Result, Err, is_some, option_map, codes, sum_by}
+use Rattle.std.specs.Prelude.{ℕ, ◌+◌, ◌-◌, ◌^◌, ◌≤◌, List, [], ◌∷◌, Bool, true, false, nat_le, ◌&&◌, ◌||◌, if◌then◌else◌, Option, Some, None, Result, Err, is_some, option_map, codes}
 use Rattle.std.specs.Option.{ok_or}
 use Rattle.std.specs.Str.{bytes_eq}
+use Rattle.heap_words.specs.Layouts.{IsPass}
+use Rattle.gc_cycle.specs.Lawful.{rooms_of}
 use Rattle.gc_cycle.specs.declared.schedule.Schedule.{Schedule}
 use Rattle.gc_cycle.specs.declared.schedule.Schedule.TheVariants.{Solo, Even, Drawn}
-use Rattle.heap_script.specs.declared.script.Command.{Command}
-use Rattle.heap_script.specs.declared.script.Command.TheVariants.{New}
-use Rattle.heap_script.specs.declared.script.Line.{Line}
 use Rattle.heap_script.specs.Allowed.{commands_of}
 use Rattle.heap_script.specs.FirstFault.{IsScript, IsFault}
 use Rattle.heap_script.specs.Scripts.{Reading, Fits}
@@ -116,23 +115,10 @@ request_of words = request_behind (usage_of words) words
 
 -- ---- scripts
 
--- the words of a region that a command's object takes
-abbrev pub room_of : Command → ℕ
-room_of (New dst len) = len + 1
-room_of _ = 0
-
--- the words that the objects of a thread take
-abbrev pub room_of_thread : ℕ → List Line → ℕ
-room_of_thread thread lines = sum_by room_of (commands_of thread lines)
-
--- the objects of each thread fit one region of 64 words
-abbrev pub HaveRoom : ℕ → List Line → Type 0
-HaveRoom threads lines = (thread : ℕ) → 1 ≤ thread → thread ≤ threads → room_of_thread thread lines ≤ 64
-
--- A script in which the objects of each thread fit one region.
+-- A script in which the objects of each thread fit one region of 64 words.
 pub record IsBuilt (script : Reading) : Type 0 where
   pub fits : Fits script
-  pub room : HaveRoom script.layout.passes script.lines
+  pub room : (thread : ℕ) → IsPass script.layout thread → rooms_of (commands_of thread script.lines) ≤ 64
 
 -- Why bytes are not played: a line has a fault, or they spell a script that is not built; want of memory has no cause.
 abbrev pub IsRefused : List ℕ → Status → Type 0

@@ -1,24 +1,19 @@
 //! Which words and which inputs this program takes.
 
-ghost use Rattle.std.specs.Prelude.{◌≡◌, ℕ, ◌+◌, ◌≤◌, ◌<◌, ◌^◌, ◌↔◌, length, map, Some, Ok, Err, IsTrue, IfOk, IfErr, IsErrOf, ◌⊎◌, string_bytes, sum_by};
-ghost use Rattle.std.specs.List.{All};
+ghost use Rattle.std.specs.Prelude.{◌≡◌, ℕ, ◌≤◌, ◌<◌, ◌^◌, ◌↔◌, length, map, Some, Ok, Err, IsTrue, IfOk, IfErr, IsErrOf, ◌⊎◌, string_bytes};
 ghost use Rattle.heap_script.specs.FirstFault.{IsScript, IsFault};
 ghost use Rattle.heap_script.specs.Grammar.{Fault};
-ghost use Rattle.heap_script.specs.Scripts.{Reading, Fits, CommandFits};
+ghost use Rattle.heap_script.specs.Scripts.{Reading, Fits};
 ghost use Rattle.heap_script.specs.Words.{number_of};
 ghost use Rattle.gc_tool.specs.Forms as grammar;
-ghost use Rattle.gc_tool.specs.Forms.{room_of as room_of_command};
 
 use crate::status::Status;
-use gc_cycle::Schedule;
-use heap_script::{Command, Line, ReadScriptFault, Script, number, read_script};
+use gc_cycle::{Schedule, World};
+use heap_script::{ReadScriptFault, Script, number, read_script};
 use std::alloc::Global;
 
 /// The most steps of a replay.
 const MOST_STEPS: u64 = 1_000_000_000;
-
-/// The words of a region.
-const REGION_WORDS: u32 = 64;
 
 /// A form of words, by its first word.
 #[derive(Clone, Copy)]
@@ -206,41 +201,11 @@ pub fn replay_of(words: &[String]) -> Result<Replay, Status>
     }
 }
 
-/// The words that the objects of a thread take.
-fn room_of_thread(lines: &[Line], thread: u32) -> u32
-    requires count { length lines.now ≤ 65536 }
-    requires fits { All (λ l. CommandFits l.command) lines.now }
-    ensures { result ≡ grammar.room_of_thread thread lines.now }
-{
-    let mut room = 0;
-    for line in lines {
-        if line.thread == thread {
-            room += room_of(line.command);
-        }
-    }
-    room
-}
-
-/// Whether the objects of each thread fit one region.
-fn have_room(threads: u32, lines: &[Line]) -> bool
-    requires threads { threads ≤ 8 }
-    requires count { length lines.now ≤ 65536 }
-    requires fits { All (λ l. CommandFits l.command) lines.now }
-    ensures { IsTrue result ↔ grammar.HaveRoom threads lines.now }
-{
-    for thread in 1..threads + 1 {
-        if room_of_thread(lines, thread) > REGION_WORDS {
-            return false;
-        }
-    }
-    true
-}
-
 fn is_built(script: &Script) -> bool
     requires { Fits script.now }
     ensures { IsTrue result ↔ grammar.IsBuilt script.now }
 {
-    have_room(script.layout.passes(), &script.lines)
+    World::has_room_for(script)
 }
 
 /// The script that the bytes spell.
@@ -274,18 +239,6 @@ pub fn read_built(alloc: Global, bytes: &[u8]) -> Result<Script, Status>
         }
         Err(ReadScriptFault::Script { line, kind }) => Err(Status::ScriptFault { line, kind }),
         Err(ReadScriptFault::OutOfMemory) => Err(Status::OutOfMemory),
-    }
-}
-
-/// The words of a region that a command's object takes.
-fn room_of(command: Command) -> u32
-    requires { CommandFits command }
-    ensures value { result ≡ room_of_command command }
-    ensures small { result ≤ 31 }
-{
-    match command {
-        Command::New { len, .. } => len + 1,
-        _ => 0,
     }
 }
 
