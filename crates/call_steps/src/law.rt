@@ -5,8 +5,6 @@ ghost use Rattle.call_steps.specs.declared.step.Step.{Step};
 ghost use Rattle.call_steps.specs.declared.step.Step.TheVariants.{Ended};
 ghost use Rattle.call_steps.specs.Steps.{place_of, applied, IsInside};
 
-use crate::machine::Machine;
-
 /// What is to hold at every moment. `R` is the record of a party: what is known of it, its machine
 /// among that. `K` is what is fixed when the words are made.
 pub trait Lawful<R, K> {
@@ -63,17 +61,4 @@ pub trait Law<R, K>: Lawful<R, K> {
         → asks r ≢ Ended → slice_index ws (place_of (asks r)) < 2 ^ 64
         → Self.lawful k (applied (asks r) ws)
         (turned k others r (slice_index ws (place_of (asks r))) ∷ others) };
-}
-
-/// A machine that stands in the record of a party.
-pub trait Party<R, K, P: Law<R, K>>: Machine {
-    /// The record's machine is this one.
-    ghost runs: { R → Self → Type 0 };
-
-    /// The record asks for the step that its machine asks for.
-    ghost asks_alike: { (r : R) (m : Self) → runs r m → P.asks r ≡ Self.asks m };
-
-    /// After a turn the record's machine is the one that was fed.
-    ghost goes_alike: { (k : K) (others : List R) (r : R) (m : Self) (n : ℕ) → runs r m
-        → runs (P.turned k others r n) (Self.fed m n) };
 }

@@ -8,14 +8,12 @@ mod law;
 mod machine;
 mod plain_words;
 mod step;
-mod turn;
 
 pub use alone::run_alone;
-pub use law::{Law, Lawful, Party};
+pub use law::{Law, Lawful};
 pub use machine::{CallMachine, Machine};
 pub use plain_words::{OutOfMemory, PlainWords};
 pub use step::Step;
-pub use turn::take_turn;
 
 #[cfg(test)]
 mod tests;

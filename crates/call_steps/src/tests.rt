@@ -1,12 +1,10 @@
-//! Steps on a few words, and two machines that share one word.
+//! Steps on a few words, and a machine that is played alone.
 
-ghost use Rattle.std.specs.Prelude.{◌≡◌, ℕ, ◌<◌, ◌↔◌, List, [], ◌∷◌, length, IsTrue};
-ghost use Rattle.std.proofs.Common.{refl, arith, lit<, ◌∙◌};
-ghost use Rattle.std.proofs.lemmas.List.Sorted.{length_permutation};
+ghost use Rattle.std.specs.Prelude.{◌≡◌, ℕ, ◌<◌, ◌↔◌, IsTrue};
+ghost use Rattle.std.proofs.Common.{refl, arith, lit<};
 ghost use Rattle.call_steps.specs.declared.step.Step.TheVariants.{Add, Ended};
 ghost use Rattle.call_steps.specs.declared.tests.Counting.TheVariants.{Twice, Once, Done};
 ghost use Rattle.call_steps.specs.Steps.{IsInside};
-ghost use Rattle.call_steps.specs.StepLaws.{length-applied};
 
 use super::*;
 use std::test::Fail;
@@ -131,87 +129,6 @@ impl CallMachine for Counting {
             Counting::Done => 0,
         }
     }
-}
-
-/// One word, and as many machines as the key says.
-struct OneWord;
-
-impl Lawful<Counting, u32> for OneWord {
-    ghost lawful = { λ k ws rs. (length ws ≡ 1) × (length rs ≡ k) };
-
-    ghost opening = { λ k. [] };
-}
-
-impl Law<Counting, u32> for OneWord {
-    ghost width = { λ k. 1 };
-
-    ghost parties = { λ k. k };
-
-    ghost asks = { elim [ Twice ↦ Add 0 1 | Once ↦ Add 0 1 | Done ↦ Ended ] };
-
-    ghost turned = { λ k others. elim [
-      | Twice ↦ λ found. Once
-      | Once ↦ λ found. Done
-      | Done ↦ λ found. Done
-    ] };
-
-    ghost begins = { λ k before now. before ≡ now };
-
-    ghost rests = { λ k r. refl };
-
-    ghost wide = { λ k ws rs kept. kept.0 };
-
-    ghost counted = { λ k ws rs kept. kept.1 };
-
-    ghost inside = { λ k ws others. elim [
-      | Twice ↦ λ kept. lit< tt
-      | Once ↦ λ kept. lit< tt
-      | Done ↦ λ kept. tt
-    ] };
-
-    ghost regroups = { λ k ws rs qs moved kept. (kept.0, length_permutation rs qs moved ∙ kept.1) };
-
-    ghost starts = { λ k ws others r now kept is. kept };
-
-    ghost keeps = { λ k ws others r kept on fits. (length-applied _ ws ∙ kept.0, kept.1) };
-}
-
-impl Party<Counting, u32, OneWord> for Counting {
-    ghost runs = { λ r m. r ≡ m };
-
-    ghost asks_alike = { λ r m is. Prim.cc };
-
-    ghost goes_alike = { λ k others r m n is. Prim.cc };
-}
-
-// Two machines take turns on one word, and each ends after two steps.
-#[test]
-fn two_machines_count(rt: HostRuntime) -> Result<(), Fail> {
-    let mut words = PlainWords::zeros(rt.alloc(), 1)?;
-    let mut first = Counting::Twice;
-    let mut second = Counting::Twice;
-    assert_eq!(rt;
-        take_turn::<Counting, u32, OneWord, Counting>(&mut words, &mut first),
-        0
-    );
-    assert_eq!(rt; first.left(), 1);
-    assert_eq!(rt;
-        take_turn::<Counting, u32, OneWord, Counting>(&mut words, &mut second),
-        1
-    );
-    assert_eq!(rt;
-        take_turn::<Counting, u32, OneWord, Counting>(&mut words, &mut first),
-        2
-    );
-    assert_eq!(rt;
-        take_turn::<Counting, u32, OneWord, Counting>(&mut words, &mut second),
-        3
-    );
-    assert_eq!(rt; words.len(), 1);
-    assert_eq!(rt; words.word(0), 4);
-    assert!(rt; matches!(first.ask(), Step::Ended));
-    assert_eq!(rt; second.left(), 0);
-    Ok(())
 }
 
 // One machine alone runs to its end.

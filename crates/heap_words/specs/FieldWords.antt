@@ -1,12 +1,13 @@
 -- Field words: a number or a link in one word.
 use Rattle.std.specs.Prelude.{◌≡◌, ◌≢◌, ℕ, ◌+◌, ◌*◌, ◌/◌, ◌%◌, ◌^◌, ◌<◌, ◌⊎◌, Option, Some, None, unwrap_or, if◌then◌else◌, Bool, false, ◌==◌}
+use Rattle.heap_words.specs.declared.limits.TheConstants.{NUMBER_LIMIT, BIRTH_LIMIT, ADDRESS_LIMIT}
 use Rattle.heap_words.specs.declared.field_word.FieldWord.{FieldWord}
 use Rattle.heap_words.specs.declared.field_word.FieldWord.TheVariants.{Num, Link}
 
 -- the numbers and links that a word has room for
 abbrev pub IsFieldWord : FieldWord → Type 0
-IsFieldWord (Num n) = n < 2 ^ 48
-IsFieldWord (Link birth at) = (birth < 2 ^ 24) × (at < 2 ^ 20)
+IsFieldWord (Num n) = n < NUMBER_LIMIT
+IsFieldWord (Link birth at) = (birth < BIRTH_LIMIT) × (at < ADDRESS_LIMIT)
 
 -- a number stands in bits 0 to 47; a link has bit 61 set, its birth number in bits 20 to 43 and its address in bits 0 to 19
 unfoldable pub word_of : FieldWord → ℕ

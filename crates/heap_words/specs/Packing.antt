@@ -1,9 +1,10 @@
 -- How many regions objects need that are laid one after another.
 use Rattle.std.specs.Prelude.{ℕ, ◌+◌, List, [], ◌∷◌, nat_le, Bool, if◌then◌else◌}
+use Rattle.heap_words.specs.declared.limits.TheConstants.{REGION_WORDS}
 
--- whether an object of n fields, which takes n + 1 words, fits behind the used words of a region of 64
+-- whether an object of n fields, which takes n + 1 words, fits after the used words of a region
 abbrev pub fits_behind : ℕ → ℕ → Bool
-fits_behind used n = nat_le (used + n + 1) 64
+fits_behind used n = nat_le (used + n + 1) REGION_WORDS
 
 -- the used words of the region in which it comes to lie: one that does not fit begins a new region
 abbrev pub used_after : ℕ → ℕ → ℕ
@@ -20,4 +21,4 @@ begun_by_all used (n ∷ rest) = begun_by used n + begun_by_all (used_after used
 
 -- the regions that objects of these lens need: the first begins one, as it does behind a full region
 abbrev pub packing : List ℕ → ℕ
-packing lens = begun_by_all 64 lens
+packing lens = begun_by_all REGION_WORDS lens

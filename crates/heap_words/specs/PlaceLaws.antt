@@ -1,16 +1,17 @@
 -- The areas of a table do not overlap, and all lie within it.
 use Rattle.std.proofs.Common.{◌≡◌, ◌<◌, ◌≤◌, refl, ap, arith}
+use Rattle.heap_words.specs.declared.limits.TheConstants.{MOST_REGIONS}
 use Rattle.heap_words.specs.Layouts.{Sizes, IsLayout, regions_of, words_of}
 use Rattle.heap_words.specs.Places.{Place, IsPlace, place_at, HasPlacesApart}
 use Rattle.heap_words.specs.Places.Place.{Phase, Mark, Greys, Ack, Root, RegionWord, Word, WideWord}
 
--- at most 2,560 regions
-pub regions_of-bound : (l : Sizes) → IsLayout l → regions_of l ≤ 2560
+-- at most so many regions
+pub regions_of-bound : (l : Sizes) → IsLayout l → regions_of l ≤ MOST_REGIONS
 regions_of-bound l h = grind arith
 
 -- at most 232,011 words
 pub words_of-bound : (l : Sizes) → IsLayout l → words_of l ≤ 232011
-words_of-bound l h = let regions : regions_of l ≤ 2560 = regions_of-bound l h in omega arith
+words_of-bound l h = let regions : regions_of l ≤ MOST_REGIONS = regions_of-bound l h in omega arith
 
 -- every place lies within the table
 pub place-below : (l : Sizes) (p : Place) → IsPlace l p → place_at l p < words_of l

@@ -1,5 +1,6 @@
 -- The places of the table, by what each is for.
 use Rattle.std.specs.Prelude.{◌≡◌, ℕ, ◌+◌, ◌<◌, ⊤}
+use Rattle.heap_words.specs.declared.limits.TheConstants.{REGISTERS, REGION_WORDS}
 use Rattle.heap_words.specs.Layouts.{Sizes, IsPass, IsRegion, words_of, phase_at, mark_at, greys_at, ack_at, root_at, region_at, first_word, wide_at}
 
 -- the three single words, the acknowledgement of a pass, the root word of a pass's register, the word of a region, the i-th word in a region, the i-th word of the wide area
@@ -19,9 +20,9 @@ IsPlace l Phase = ⊤
 IsPlace l Mark = ⊤
 IsPlace l Greys = ⊤
 IsPlace l (Ack pass) = IsPass l pass
-IsPlace l (Root pass reg) = IsPass l pass × (reg < 8)
+IsPlace l (Root pass reg) = IsPass l pass × (reg < REGISTERS)
 IsPlace l (RegionWord region) = IsRegion l region
-IsPlace l (Word region i) = IsRegion l region × (i < 64)
+IsPlace l (Word region i) = IsRegion l region × (i < REGION_WORDS)
 IsPlace l (WideWord i) = i < l.wide
 
 -- the address of a place

@@ -1,13 +1,15 @@
 //! The table's areas: the phase word, the mark word and the count of greys, the acknowledgements, the
-//! root words, the region words, the regions of 64 words each, and the wide area.
+//! root words, the region words, the regions of [`REGION_WORDS`] words each, and the wide area.
 
 ghost use Rattle.std.specs.Prelude.{◌≡◌, ◌<◌, ◌↔◌, IsOk, IfOk};
 ghost use Rattle.std.specs.Result.{result_err};
 
+use crate::limits::{MOST_PASSES, MOST_POOL, MOST_QUOTA, MOST_WIDE, REGION_WORDS, REGISTERS};
 use std::marker::Model;
 
-/// How many passes, regions and words a table has: 1 to 8 passes, 1 to 256 regions of its own for
-/// each, 1 to 512 regions in the pool, and 0 to 65,536 words in the wide area.
+/// How many passes, regions and words a table has: 1 to [`MOST_PASSES`] passes, 1 to [`MOST_QUOTA`]
+/// regions of its own for each, 1 to [`MOST_POOL`] regions in the pool, and 0 to [`MOST_WIDE`] words in
+/// the wide area.
 #[derive(Clone, Copy, Debug, PartialEq, Eq)]
 pub struct Layout {
     passes: u32,
@@ -31,37 +33,30 @@ impl Model for Layout {
 /// The first number of a layout that is out of its range.
 #[derive(Clone, Copy, Debug, PartialEq, Eq)]
 pub enum LayoutFault {
-    /// The passes are not 1 to 8.
+    /// The passes are not 1 to [`MOST_PASSES`].
     Passes,
-    /// The regions of each pass are not 1 to 256.
+    /// The regions of each pass are not 1 to [`MOST_QUOTA`].
     Quota,
-    /// The regions of the pool are not 1 to 512.
+    /// The regions of the pool are not 1 to [`MOST_POOL`].
     Pool,
-    /// The words of the wide area are over 65,536.
+    /// The words of the wide area are over [`MOST_WIDE`].
     Wide,
 }
-
-const MAX_PASSES: u32 = 8;
-
-const MAX_QUOTA: u32 = 256;
-
-const MAX_POOL: u32 = 512;
-
-const MAX_WIDE: u32 = 65_536;
 
 /// The words that stand alone at the table's start, before the acknowledgements.
 const SINGLE_WORDS: u32 = 3;
 
-/// An acknowledgement and eight root words.
-const WORDS_OF_PASS: u32 = 9;
+/// The acknowledgement of a pass and its root words.
+const WORDS_OF_PASS: u32 = 1 + REGISTERS as u32;
 
-/// A region's own word and its 64 words.
-const WORDS_OF_REGION: u32 = 65;
+/// The word that says what a region is used for, and the region's words.
+const WORDS_OF_REGION: u32 = 1 + REGION_WORDS;
 
 impl Layout {
     ghost use Rattle.heap_words.specs.Layouts.{Sizes, IsLayout, IsPass, IsRegion, regions_of, words_of};
     ghost use Rattle.heap_words.specs.Layouts.{phase_at, mark_at, greys_at, ack_at, root_at, region_at, first_word, wide_at};
     ghost use Rattle.heap_words.specs.LayoutFaults.{first_fault};
+    ghost use Rattle.heap_words.specs.declared.limits.TheConstants.{REGISTERS};
     ghost use Rattle.heap_words.specs.Places.{HasPlacesApart};
 
     /// The layout of these numbers, or the first of them that is out of its range.
@@ -72,16 +67,16 @@ impl Layout {
         // No two areas overlap, and all lie within the table.
         ensures areas { IfOk result HasPlacesApart }
     {
-        if passes < 1 || passes > MAX_PASSES {
+        if passes < 1 || passes > MOST_PASSES {
             return Err(LayoutFault::Passes);
         }
-        if quota < 1 || quota > MAX_QUOTA {
+        if quota < 1 || quota > MOST_QUOTA {
             return Err(LayoutFault::Quota);
         }
-        if pool < 1 || pool > MAX_POOL {
+        if pool < 1 || pool > MOST_POOL {
             return Err(LayoutFault::Pool);
         }
-        if wide > MAX_WIDE {
+        if wide > MOST_WIDE {
             return Err(LayoutFault::Wide);
         }
         Ok(Layout {
@@ -178,11 +173,11 @@ impl Layout {
     /// The address of a pass's root word for a register, 0 for `a` to 7 for `h`.
     pub fn root_at(&self, pass: u32, reg: u32) -> u32
         requires pass_in_range { IsPass self.now pass }
-        requires reg_in_range { reg < 8 }
+        requires reg_in_range { reg < REGISTERS }
         ensures number { result ≡ root_at self.now pass reg }
         ensures within { IsLayout self.now }
     {
-        SINGLE_WORDS + self.passes + 8 * (pass - 1) + reg
+        SINGLE_WORDS + self.passes + REGISTERS as u32 * (pass - 1) + reg
     }
 
     /// The address of the word that says what a region is used for.
@@ -194,13 +189,13 @@ impl Layout {
         self.first_region_at() + region
     }
 
-    /// The address of the first of a region's 64 words.
+    /// The address of the first of a region's words.
     pub fn first_word(&self, region: u32) -> u32
         requires { IsRegion self.now region }
         ensures number { result ≡ first_word self.now region }
         ensures within { IsLayout self.now }
     {
-        self.first_region_at() + self.regions() + 64 * region
+        self.first_region_at() + self.regions() + REGION_WORDS * region
     }
 
     /// The address of the first word of the wide area; where that has no words, the table's length.

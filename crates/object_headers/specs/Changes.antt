@@ -6,34 +6,48 @@ use Rattle.object_headers.specs.declared.header.Colour.{Colour}
 use Rattle.object_headers.specs.declared.header.Colour.TheVariants.{Grey}
 use Rattle.object_headers.specs.declared.header.Header.{Header}
 use Rattle.object_headers.specs.declared.change.Kind.{Kind}
-use Rattle.object_headers.specs.declared.change.Kind.TheVariants.{Stopless, Chicken, Clover}
+use Rattle.object_headers.specs.declared.change.Kind.TheVariants.{AtRest, Stopless, Chicken, Clover}
 use Rattle.object_headers.specs.declared.change.Rule.{Rule}
 use Rattle.object_headers.specs.declared.change.Rule.TheVariants.{Forbidden, Free, Recolours, Keeps}
 
 abbrev pub is_stopless : Kind → Bool
+is_stopless AtRest = false
 is_stopless Stopless = true
 is_stopless Chicken = false
 is_stopless Clover = false
 
 abbrev pub is_chicken : Kind → Bool
+is_chicken AtRest = false
 is_chicken Stopless = false
 is_chicken Chicken = true
 is_chicken Clover = false
 
 abbrev pub is_clover : Kind → Bool
+is_clover AtRest = false
 is_clover Stopless = false
 is_clover Chicken = false
 is_clover Clover = true
 
 -- Stopless and Chicken tag an object before they copy it
 abbrev pub does_tag : Kind → Bool
+does_tag AtRest = false
 does_tag Stopless = true
 does_tag Chicken = true
 does_tag Clover = false
 
--- a change that some copiers have
+-- all but one move objects
+abbrev pub does_move : Kind → Bool
+does_move AtRest = false
+does_move Stopless = true
+does_move Chicken = true
+does_move Clover = true
+
+-- a change that some copiers have, of an object or at its end
 abbrev pub keeps_if : Bool → Rule
 keeps_if has = if has then Keeps else Forbidden
+
+abbrev pub free_if : Bool → Rule
+free_if has = if has then Free else Forbidden
 
 -- the rule of each change from one state to another
 abbrev pub rule_of : Kind → State → State → Rule
@@ -53,7 +67,7 @@ rule_of kind Moving Forward = keeps_if (is_clover kind)
 rule_of kind Kept Plain = keeps_if (does_tag kind)
 rule_of kind Forward Dead = keeps_if (does_tag kind)
 rule_of kind Dead Absent = Free
-rule_of kind Forward Absent = Free
+rule_of kind Forward Absent = free_if (does_move kind)
 -- there is no other
 rule_of kind from to = Forbidden
 

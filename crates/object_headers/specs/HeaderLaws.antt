@@ -1,5 +1,6 @@
 -- What packs unpacks, and no two headers share a word.
 use Rattle.std.proofs.Common.{◌≡◌, ◌≢◌, ℕ, ◌^◌, ◌<◌, ◌≤◌, ◌⊎◌, inl, inr, Bool, true, false, cond, ◌==◌, ◌&&◌, Some, None, lit<, lit≤, refl, ap, subst, sym, ◌∙◌, arith, IfSome, IsNone, ◌↔◌}
+use Rattle.heap_words.specs.declared.limits.TheConstants.{MOST_FIELDS}
 use Rattle.std.proofs.lemmas.Bool.Decides.{nat_tests, eqb_tells}
 use Rattle.object_headers.specs.declared.header.State.{State}
 use Rattle.object_headers.specs.declared.header.State.TheVariants.{Absent, Plain, Kept, Tagged, Wide, Moving, Forward, Dead}
@@ -79,7 +80,7 @@ module _ (h : Header) (f : IsHeader h) where
   above_is : bits_above (word_of_header h) ≡ 0
   above_is = omega (arith, word_of_header-below)
 
-object_bits : (s : State) (h : Header) (c : ℕ) → s ≢ Absent → c < 3 → h.len ≤ 30 → FitsState s h → are_object_bits (code_of s) c h.len h.birth h.target ≡ true
+object_bits : (s : State) (h : Header) (c : ℕ) → s ≢ Absent → c < 3 → h.len ≤ MOST_FIELDS → FitsState s h → are_object_bits (code_of s) c h.len h.birth h.target ≡ true
 object_bits Absent h c not_absent colour len fits = absurd (not_absent refl)
 object_bits Plain h c not_absent colour len fits = grind (arith, nat_tests)
 object_bits Kept h c not_absent colour len fits = grind (arith, nat_tests)
@@ -156,12 +157,12 @@ abbrev AreNoHeader : ℕ → ℕ → ℕ → ℕ → ℕ → ℕ → ℕ → Typ
 AreNoHeader word above state colour len birth target =
     (above ≢ 0)
     ⊎ ((colour ≡ 3)
-    ⊎ ((30 < len)
+    ⊎ ((MOST_FIELDS < len)
     ⊎ (((state ≡ 0) × (word ≢ 0))
     ⊎ (((state ≢ 0) × (birth ≡ 0))
     ⊎ (((state < 4) ⊎ (6 < state)) × (target ≢ 0))))))
 
-object_bits-true : (s c l b t : ℕ) → are_object_bits s c l b t ≡ true → (c < 3) × (l ≤ 30) × (0 < b) × ((t ≡ 0) ⊎ ((4 ≤ s) × (s ≤ 6)))
+object_bits-true : (s c l b t : ℕ) → are_object_bits s c l b t ≡ true → (c < 3) × (l ≤ MOST_FIELDS) × (0 < b) × ((t ≡ 0) ⊎ ((4 ≤ s) × (s ≤ 6)))
 object_bits-true s c l b t h = (grind (arith, nat_tests), grind (arith, nat_tests), grind (arith, nat_tests), grind (arith, nat_tests))
 
 object_bits-false : (w a s c l b t : ℕ) → s ≢ 0 → c < 4 → are_object_bits s c l b t ≡ false → AreNoHeader w a s c l b t
@@ -171,7 +172,7 @@ object_bits-false w a s c l b t object colour h = grind (arith, nat_tests)
 pub record HoldsHeader (word : ℕ) : Type 0 where
   pub above : bits_above word ≡ 0
   pub colour : colour_bits word < 3
-  pub len : len_bits word ≤ 30
+  pub len : len_bits word ≤ MOST_FIELDS
   pub absent : state_bits word ≡ 0 → word ≡ 0
   pub born : state_bits word ≢ 0 → 0 < birth_bits word
   pub target : (target_bits word ≡ 0) ⊎ ((4 ≤ state_bits word) × (state_bits word ≤ 6))
@@ -235,7 +236,7 @@ pub holds_no_header : (word : ℕ) → names_header word ≡ false → HoldsNoHe
 unfolding names_header names
 holds_no_header word h = names-false word (bits_above word) (state_bits word) (colour_bits word) (len_bits word) (birth_bits word) (target_bits word) (omega arith) h
 
-both_bits : (w a s c l b t : ℕ) → a ≡ 0 → c < 3 → l ≤ 30 → (s ≡ 0 → w ≡ 0) → (s ≢ 0 → 0 < b) → (t ≡ 0) ⊎ ((4 ≤ s) × (s ≤ 6)) → AreNoHeader w a s c l b t → ⊥
+both_bits : (w a s c l b t : ℕ) → a ≡ 0 → c < 3 → l ≤ MOST_FIELDS → (s ≡ 0 → w ≡ 0) → (s ≢ 0 → 0 < b) → (t ≡ 0) ⊎ ((4 ≤ s) × (s ≤ 6)) → AreNoHeader w a s c l b t → ⊥
 both_bits w a s c l b t above colour len none born target n = grind arith
 
 -- the two exclude each other

@@ -1,5 +1,6 @@
 -- Header words: the state, the colour, the len, the birth number and the target of an object in one word.
 use Rattle.std.specs.Prelude.{◌≡◌, ◌≢◌, ℕ, ◌+◌, ◌*◌, ◌/◌, ◌%◌, ◌^◌, ◌<◌, ◌≤◌, ◌⊎◌, Bool, ◌&&◌, ◌||◌, not, ◌==◌, nat_lt, nat_le, Option, Some, None, unwrap_or, if◌then◌else◌}
+use Rattle.heap_words.specs.declared.limits.TheConstants.{MOST_FIELDS, BIRTH_LIMIT, ADDRESS_LIMIT}
 use Rattle.object_headers.specs.declared.header.State.{State}
 use Rattle.object_headers.specs.declared.header.State.TheVariants.{Absent, Plain, Kept, Tagged, Wide, Moving, Forward, Dead}
 use Rattle.object_headers.specs.declared.header.Colour.TheVariants.{Even}
@@ -19,9 +20,9 @@ FitsState Dead h = (0 < h.birth) × (h.target ≡ 0)
 
 -- the headers that have a word
 pub record IsHeader (h : Header) : Type 0 where
-  pub len : h.len ≤ 30
-  pub birth : h.birth < 2 ^ 24
-  pub target : h.target < 2 ^ 20
+  pub len : h.len ≤ MOST_FIELDS
+  pub birth : h.birth < BIRTH_LIMIT
+  pub target : h.target < ADDRESS_LIMIT
   pub state : FitsState h.state h
 
 -- the state in bits 0 to 2, the colour in bits 3 and 4, the len in bits 5 to 10, the birth number in bits 11 to 34, the target in bits 35 to 54
@@ -52,12 +53,12 @@ target_bits word = word / 2 ^ 35 % 2 ^ 20
 abbrev pub bits_above : ℕ → ℕ
 bits_above word = word / 2 ^ 55
 
--- no header: a bit from 55 on is set, the colour is 3, the len is over 30, Absent (0) has another bit set, the birth number is 0 in another state, or there is a target in a state other than Wide, Moving and Forward (4 to 6)
+-- no header: a bit from 55 on is set, the colour is 3, the len is over the most fields of an object, Absent (0) has another bit set, the birth number is 0 in another state, or there is a target in a state other than Wide, Moving and Forward (4 to 6)
 abbrev pub HoldsNoHeader : ℕ → Type 0
 HoldsNoHeader word =
     (bits_above word ≢ 0)
     ⊎ ((colour_bits word ≡ 3)
-    ⊎ ((30 < len_bits word)
+    ⊎ ((MOST_FIELDS < len_bits word)
     ⊎ (((state_bits word ≡ 0) × (word ≢ 0))
     ⊎ (((state_bits word ≢ 0) × (birth_bits word ≡ 0))
     ⊎ (((state_bits word < 4) ⊎ (6 < state_bits word)) × (target_bits word ≢ 0))))))
@@ -69,7 +70,7 @@ has_target state = nat_le 4 state && nat_le state 6
 -- whether these can be the bits of a header in another state than Absent
 abbrev pub are_object_bits : ℕ → ℕ → ℕ → ℕ → ℕ → Bool
 are_object_bits state colour len birth target =
-    nat_lt colour 3 && nat_le len 30 && not (birth == 0) && (target == 0 || has_target state)
+    nat_lt colour 3 && nat_le len MOST_FIELDS && not (birth == 0) && (target == 0 || has_target state)
 
 -- whether a word is that of a header
 unfoldable pub names_header : ℕ → Bool

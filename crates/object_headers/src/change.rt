@@ -1,13 +1,15 @@
 //! Which changes of a header are allowed, by the kind of copier.
 
 ghost use Rattle.std.specs.Prelude.{◌≡◌, ◌≢◌, ◌↔◌, IsTrue};
-ghost use Rattle.object_headers.specs.Changes.{keeps_if, rule_of, AllowedChange};
+ghost use Rattle.object_headers.specs.Changes.{keeps_if, free_if, rule_of, AllowedChange};
 
 use super::header::{Colour, Header, State};
 
 /// The kind of a copier.
 #[derive(Clone, Copy, Debug, PartialEq, Eq)]
 pub enum Kind {
+    /// It moves nothing.
+    AtRest,
     Stopless,
     Chicken,
     Clover,
@@ -33,17 +35,26 @@ fn keeps_if(has: bool) -> Rule
     if has { Rule::Keeps } else { Rule::Forbidden }
 }
 
+/// `Free` where a copier has the change.
+fn free_if(has: bool) -> Rule
+    ensures { result ≡ free_if has }
+{
+    if has { Rule::Free } else { Rule::Forbidden }
+}
+
 /// The rule of a change from one state to another.
 fn rule_between(kind: Kind, from: State, to: State) -> Rule
     ensures { result ≡ rule_of kind from to }
 {
+    let moves = !matches!(kind, Kind::AtRest);
     let tags = matches!(kind, Kind::Stopless | Kind::Chicken);
     let widens = matches!(kind, Kind::Stopless);
     let skips_wide = matches!(kind, Kind::Chicken);
     let marks = matches!(kind, Kind::Clover);
     match (from, to) {
         (State::Absent, State::Plain) => Rule::Free,
-        (State::Dead | State::Forward, State::Absent) => Rule::Free,
+        (State::Dead, State::Absent) => Rule::Free,
+        (State::Forward, State::Absent) => free_if(moves),
         (State::Plain, State::Plain) => Rule::Recolours,
         (State::Plain, State::Dead) => Rule::Keeps,
         (State::Plain, State::Tagged) | (State::Tagged, State::Kept) => keeps_if(tags),
@@ -89,28 +100,29 @@ mod tests {
 
     #[test]
     fn changes_states_by_the_kind_of_copier(rt: HostRuntime) {
-        for (from, to, stopless, chicken, clover) in [
-            (State::Absent, State::Plain, true, true, true),
-            (State::Plain, State::Dead, true, true, true),
-            (State::Plain, State::Tagged, true, true, false),
-            (State::Tagged, State::Kept, true, true, false),
-            (State::Tagged, State::Wide, true, false, false),
-            (State::Wide, State::Forward, true, false, false),
-            (State::Tagged, State::Forward, false, true, false),
-            (State::Plain, State::Moving, false, false, true),
-            (State::Moving, State::Forward, false, false, true),
-            (State::Kept, State::Plain, true, true, false),
-            (State::Forward, State::Dead, true, true, false),
-            (State::Dead, State::Absent, true, true, true),
-            (State::Forward, State::Absent, true, true, true),
-            (State::Plain, State::Plain, false, false, false),
-            (State::Plain, State::Forward, false, false, false),
-            (State::Kept, State::Forward, false, false, false),
-            (State::Forward, State::Plain, false, false, false),
-            (State::Dead, State::Plain, false, false, false),
+        for (from, to, at_rest, stopless, chicken, clover) in [
+            (State::Absent, State::Plain, true, true, true, true),
+            (State::Plain, State::Dead, true, true, true, true),
+            (State::Plain, State::Tagged, false, true, true, false),
+            (State::Tagged, State::Kept, false, true, true, false),
+            (State::Tagged, State::Wide, false, true, false, false),
+            (State::Wide, State::Forward, false, true, false, false),
+            (State::Tagged, State::Forward, false, false, true, false),
+            (State::Plain, State::Moving, false, false, false, true),
+            (State::Moving, State::Forward, false, false, false, true),
+            (State::Kept, State::Plain, false, true, true, false),
+            (State::Forward, State::Dead, false, true, true, false),
+            (State::Dead, State::Absent, true, true, true, true),
+            (State::Forward, State::Absent, false, true, true, true),
+            (State::Plain, State::Plain, false, false, false, false),
+            (State::Plain, State::Forward, false, false, false, false),
+            (State::Kept, State::Forward, false, false, false, false),
+            (State::Forward, State::Plain, false, false, false, false),
+            (State::Dead, State::Plain, false, false, false, false),
         ] {
             let from = header(from, Colour::Even, 8);
             let to = header(to, Colour::Even, 8);
+            assert_eq!(rt; allowed_change(Kind::AtRest, from, to), at_rest);
             assert_eq!(rt; allowed_change(Kind::Stopless, from, to), stopless);
             assert_eq!(rt; allowed_change(Kind::Chicken, from, to), chicken);
             assert_eq!(rt; allowed_change(Kind::Clover, from, to), clover);

@@ -4,6 +4,8 @@ ghost use Rattle.std.specs.Prelude.{◌≡◌, ◌<◌, ◌^◌, ◌↔◌, IsNo
 ghost use Rattle.object_headers.specs.States.{code_of, state_of, colour_code_of, colour_of};
 ghost use Rattle.object_headers.specs.Headers.{are_object_bits, names_header};
 
+use heap_words::MOST_FIELDS;
+
 /// What an object is, or what its word is while there is none.
 #[derive(Clone, Copy, Debug, PartialEq, Eq)]
 pub enum State {
@@ -39,7 +41,7 @@ pub enum Colour {
 pub struct Header {
     pub state: State,
     pub colour: Colour,
-    /// The number of fields, 0 to 30.
+    /// The number of fields, 0 to [`MOST_FIELDS`].
     pub len: u32,
     /// The birth number, below 2^24, and 0 only where there is no object.
     pub birth: u32,
@@ -112,7 +114,7 @@ fn are_object_bits(state: u64, colour: u64, len: u64, birth: u64, target: u64) -
     ensures { result ≡ are_object_bits state colour len birth target }
 {
     let has_target = 4 <= state && state <= 6;
-    colour < 3 && len <= 30 && birth != 0 && (target == 0 || has_target)
+    colour < 3 && len <= u64::from(MOST_FIELDS) && birth != 0 && (target == 0 || has_target)
 }
 
 /// Whether a word is that of a header.
