@@ -1,0 +1,5 @@
+pub mod WideWords
+pub mod WideWordLaws
+pub mod Changes
+pub mod Statuses
+pub mod StatusLaws
