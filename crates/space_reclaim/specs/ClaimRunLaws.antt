@@ -1,10 +1,9 @@
 -- The round of a pass goes over each of its own regions.
-use Rattle.std.specs.Prelude.{◌≡◌, ◌≢◌, ℕ, ◌+◌, ◌-◌, ◌<◌, ◌≤◌, ◌==◌, nat_lt, ◌⊎◌, List, [], ◌∷◌, Bool, true, false, if◌then◌else◌, Option, Some, None, refl}
+use Rattle.std.specs.Prelude.{nat_le, ◌&&◌, ◌≡◌, ◌≢◌, ℕ, ◌+◌, ◌-◌, ◌<◌, ◌≤◌, ◌==◌, nat_lt, ◌⊎◌, List, [], ◌∷◌, Bool, true, false, if◌then◌else◌, Option, Some, None, refl}
 use Rattle.std.proofs.Common.{arith, inl, inr, ap, sym, ◌∙◌, subst}
 use Rattle.std.proofs.lemmas.Bool.Decides.{nat_tests}
 use Rattle.std.proofs.lemmas.Bool.{cases_eq}
 use Rattle.call_steps.specs.declared.step.Step.TheVariants.{Exchange}
-use Rattle.std.specs.Option.{ForSome}
 use Rattle.heap_words.specs.Layouts.{Sizes, IsLayout, region_at}
 use Rattle.space_reclaim.specs.declared.region_word.RegionWord.TheVariants.{Taken}
 use Rattle.space_reclaim.specs.declared.claim.Round.{Round}
@@ -172,26 +171,27 @@ look_won r (word ∷ rest) k base here is = elim (cases_eq word 0) [
   | inr used ↦ then_won r (claim.Look r) (passed_by claim.Look r) word rest k (look-used r word used) (passed_won claim.Look r rest k (r.ahead == 0) (look_won (next_round r) rest k base (next_on_round r here)) (subst (λ m. after m rest ≡ claim.Ended (Claimed k)) (look-used r word used) is))
 ]
 
-begins_own : (l : Sizes) (pass : ℕ) (last : Option ℕ) → IsLayout l → ForSome last (IsOwn l pass) → IsOwn l pass (begins_at l pass last)
-begins_own l pass None fits own = (omega arith, omega arith)
-begins_own l pass (Some region) fits own = begins_behind (first_own l pass) (last_own l pass) region (nat_lt region (last_own l pass)) refl (omega arith) (own region refl)
+begins_own : (l : Sizes) (pass : ℕ) (last : Option ℕ) → IsLayout l → IsOwn l pass (begins_at l pass last)
+begins_own l pass None fits = (omega arith, omega arith)
+begins_own l pass (Some region) fits = begins_after (first_own l pass) (last_own l pass) region (nat_le (first_own l pass) region) (nat_lt region (last_own l pass)) refl refl (omega arith)
   where
-    begins_behind : (first last region : ℕ) (b : Bool) → nat_lt region last ≡ b → first ≤ last → (first ≤ region) × (region ≤ last) → (first ≤ (if b then region + 1 else first)) × ((if b then region + 1 else first) ≤ last)
-    begins_behind first last region true e order is = (omega (arith, is.0), grind (arith, nat_tests))
-    begins_behind first last region false e order is = (omega arith, order)
+    begins_after : (first last region : ℕ) (a b : Bool) → nat_le first region ≡ a → nat_lt region last ≡ b → first ≤ last → (first ≤ (if a && b then region + 1 else first)) × ((if a && b then region + 1 else first) ≤ last)
+    begins_after first last region true true from to order = (grind (arith, nat_tests), grind (arith, nat_tests))
+    begins_after first last region true false from to order = (omega arith, order)
+    begins_after first last region false b from to order = (omega arith, order)
 
-round_is_on : (l : Sizes) (pass : ℕ) (last : Option ℕ) → IsLayout l → ForSome last (IsOwn l pass) → IsOnRound (round_of l pass last)
-round_is_on l pass last fits own =
-    let begins = begins_own l pass last fits own in
+round_is_on : (l : Sizes) (pass : ℕ) (last : Option ℕ) → IsLayout l → IsOnRound (round_of l pass last)
+round_is_on l pass last fits =
+    let begins = begins_own l pass last fits in
     record { first = omega (arith, begins.0); last = omega (arith, begins.1) }
 
 -- plain numbers: from any place of a round all places are ahead
 all_ahead : (first size at a : ℕ) → 1 ≤ size → first ≤ a → a ≤ first + (size - 1) → first ≤ at → at ≤ first + (size - 1) → ((at ≤ a) × (a ≤ at + (size - 1))) ⊎ (a + (first + (size - 1) + 1 - first) ≤ at + (size - 1))
 all_ahead first size at a one fa la fi li = grind arith
 
-round_is_ahead : (l : Sizes) (pass : ℕ) (last : Option ℕ) (region : ℕ) → IsLayout l → ForSome last (IsOwn l pass) → IsOwn l pass region → IsAhead (round_of l pass last) (region_at l region)
-round_is_ahead l pass last region fits own is =
-    let begins = begins_own l pass last fits own in
+round_is_ahead : (l : Sizes) (pass : ℕ) (last : Option ℕ) (region : ℕ) → IsLayout l → IsOwn l pass region → IsAhead (round_of l pass last) (region_at l region)
+round_is_ahead l pass last region fits is =
+    let begins = begins_own l pass last fits in
     let places = all_ahead (region_at l (first_own l pass)) l.quota (region_at l (begins_at l pass last)) (region_at l region) fits.quota.0 (omega (arith, is.0)) (omega (arith, is.1)) (omega (arith, begins.0)) (omega (arith, begins.1)) in
     let last_is : region_at l (last_own l pass) ≡ region_at l (first_own l pass) + (l.quota - 1) = omega arith in
     record { first = omega (arith, is.0); last = omega (arith, is.1); ahead = rw last_is places }
@@ -202,11 +202,11 @@ own_of l pass last m found region won =
     ((omega (arith, won.first), omega (arith, won.last)), subst (λ at. Exchanged m found at (word_of_region (Taken pass))) at_is won.exchanged)
 
 -- a claim ends with the cause that its end says
-pub ends_with_cause : (l : Sizes) (pass : ℕ) (last : Option ℕ) → IsLayout l → ForSome last (IsOwn l pass) → EndsWithCause l pass (claim.Look (round_of l pass last))
-ends_with_cause l pass last fits own = record {
-  claimed = λ found region is. own_of l pass last _ found region (look_won (round_of l pass last) found region (omega arith) (round_is_on l pass last fits own) is);
+pub ends_with_cause : (l : Sizes) (pass : ℕ) (last : Option ℕ) → IsLayout l → EndsWithCause l pass (claim.Look (round_of l pass last))
+ends_with_cause l pass last fits = record {
+  claimed = λ found region is. own_of l pass last _ found region (look_won (round_of l pass last) found region (omega arith) (round_is_on l pass last fits) is);
   none_free = λ found regions is. (
     look_tells (round_of l pass last) found regions is,
-    λ region mine. look_found (round_of l pass last) found (region_at l region) regions (round_is_on l pass last fits own) (round_is_ahead l pass last region fits own mine) is,
+    λ region mine. look_found (round_of l pass last) found (region_at l region) regions (round_is_on l pass last fits) (round_is_ahead l pass last region fits mine) is,
   );
 }

@@ -4,3 +4,7 @@ pub mod OwnRegions
 pub mod Claims
 pub mod ClaimRuns
 pub mod ClaimRunLaws
+pub mod Plans
+pub mod PlanMeanings
+pub mod Releases
+pub mod ReleaseLaws

@@ -1,5 +1,5 @@
 -- The regions of a pass's own, and the round that it makes of them.
-use Rattle.std.specs.Prelude.{ℕ, ◌+◌, ◌*◌, ◌-◌, ◌≤◌, nat_lt, Option, Some, None, if◌then◌else◌}
+use Rattle.std.specs.Prelude.{ℕ, ◌+◌, ◌*◌, ◌-◌, ◌≤◌, ◌&&◌, nat_le, nat_lt, Option, Some, None, if◌then◌else◌}
 use Rattle.heap_words.specs.Layouts.{Sizes}
 
 -- the first of them
@@ -14,7 +14,8 @@ last_own l pass = first_own l pass + (l.quota - 1)
 abbrev pub IsOwn : Sizes → ℕ → ℕ → Type 0
 IsOwn l pass region = (first_own l pass ≤ region) × (region ≤ last_own l pass)
 
--- where its round begins: behind the region that it claimed last, or at the first where it claimed none; behind the last comes the first
+-- Where its round begins: after the region that it claimed last, or at the first where it claimed none of its own; after the last comes the first.
 abbrev pub begins_at : Sizes → ℕ → Option ℕ → ℕ
 begins_at l pass None = first_own l pass
-begins_at l pass (Some region) = if nat_lt region (last_own l pass) then region + 1 else first_own l pass
+begins_at l pass (Some region) =
+    if nat_le (first_own l pass) region && nat_lt region (last_own l pass) then region + 1 else first_own l pass

@@ -27,21 +27,21 @@ pub struct Round {
 }
 
 impl Round {
-    ghost use Rattle.heap_words.specs.Layouts.{IsLayout, IsPass};
-    ghost use Rattle.space_reclaim.specs.OwnRegions.{IsOwn};
+    ghost use Rattle.heap_words.specs.Layouts.{IsLayout, IsPass, IsRegion};
     ghost use Rattle.space_reclaim.specs.Claims.{round_of, next_round, region_of};
 
-    /// The round of a pass that begins behind the region `last`, or at its first where that is `None`.
+    /// The round of a pass that begins after the region `last`, or at its first where that is `None` or
+    /// none of its own.
     fn of_pass(layout: &Layout, pass: u32, last: Option<u32>) -> Round
         requires pass { IsPass layout.now pass }
-        requires last { ForSome last (λ region. IsOwn layout.now pass region) }
+        requires last { ForSome last (IsRegion layout.now) }
         ensures round { result ≡ round_of layout.now pass last }
         ensures within { IsLayout layout.now }
     {
         let first_own = layout.pool() + (pass - 1) * layout.quota();
         let last_own = first_own + (layout.quota() - 1);
         let begins_at = match last {
-            Some(region) if region < last_own => region + 1,
+            Some(region) if first_own <= region && region < last_own => region + 1,
             _ => first_own,
         };
         Round {
@@ -113,17 +113,18 @@ const FREE: u64 = 0;
 impl ClaimMachine {
     ghost use Rattle.std.specs.Prelude.{◌↔◌, IsSome};
     ghost use Rattle.call_steps.specs.declared.step.Step.TheVariants.{Ended};
-    ghost use Rattle.heap_words.specs.Layouts.{IsPass};
+    ghost use Rattle.heap_words.specs.Layouts.{IsPass, IsRegion};
     ghost use Rattle.space_reclaim.specs.declared.claim.ClaimMachine.TheVariants.{Look};
-    ghost use Rattle.space_reclaim.specs.OwnRegions.{IsOwn};
-    ghost use Rattle.space_reclaim.specs.Claims.{round_of, asks_of, end_of};
+    ghost use Rattle.space_reclaim.specs.Claims.{round_of, asks_of, left_of, end_of};
     ghost use Rattle.space_reclaim.specs.ClaimRuns.{EndsWithCause};
 
-    /// The claim of a pass that claimed the region `last` before, or none.
+    /// The claim of a pass that claimed the region `last` before, or none. It begins after that region, if
+    /// it is one of the pass's own, and else at the first.
     pub fn new(layout: &Layout, pass: u32, last: Option<u32>) -> ClaimMachine
         requires pass { IsPass layout.now pass }
-        requires last { ForSome last (λ region. IsOwn layout.now pass region) }
+        requires last { ForSome last (IsRegion layout.now) }
         ensures machine { result ≡ Look (round_of layout.now pass last) }
+        ensures steps { left_of result ≤ layout.now.quota + 1 }
 
         // It claims a region only by an exchange that found Free, and none is free only where each of
         // the pass's own was found in use.

@@ -2,14 +2,14 @@
 
 ghost use Rattle.std.specs.Prelude.{◌≡◌, ◌≤◌, ◌<◌, ◌^◌, All, length};
 ghost use Rattle.heap_words.specs.Packing.{packing};
+ghost use Rattle.heap_words.specs.declared.limits.TheConstants.{MOST_FIELDS};
 
-/// Words of a region.
-const REGION_WORDS: u32 = 64;
+use heap_words::REGION_WORDS;
 
-/// The number of regions that objects of these lens, 0 to 30 fields each, need when they are laid one
+/// The number of regions that objects of these lens, 0 to [`MOST_FIELDS`] each, need when they are laid one
 /// after another, each its fields and one more word, and one that does not fit begins a new region.
 pub fn packing(lens: &[u32]) -> u32
-    requires lens { All (λ len. len ≤ 30) lens.now }
+    requires lens { All (λ len. len ≤ MOST_FIELDS) lens.now }
     requires count { length lens.now < 2 ^ 31 }
     ensures { result ≡ packing lens.now }
 {
