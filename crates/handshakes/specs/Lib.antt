@@ -5,3 +5,13 @@ pub mod Follows
 pub mod Polls
 pub mod Awaits
 pub mod Retires
+pub mod Handshakes
+pub mod HandshakeLaws
+pub mod Following
+pub mod FollowingLaws
+pub mod Polling
+pub mod PollingLaws
+pub mod Retiring
+pub mod RetiringLaws
+pub mod Awaiting
+pub mod AwaitingLaws

@@ -3,6 +3,7 @@ use Rattle.std.specs.Prelude.{◌≡◌, ◌≢◌, ℕ, ◌+◌, ◌*◌, ◌/�
 use Rattle.handshakes.specs.declared.phase_word.Phase.{Phase}
 use Rattle.handshakes.specs.declared.phase_word.Phase.TheVariants.{Free, Mark, Confirm, Copy, Fix, Retired}
 use Rattle.handshakes.specs.declared.phase_word.PhaseWord.{PhaseWord}
+use Rattle.handshakes.specs.declared.phase_word.TheConstants.{RETIRED}
 use Rattle.handshakes.specs.Phases.{code_of, phase_of}
 
 -- Retired stands with cycle and round 0
@@ -64,4 +65,4 @@ phase_word_at word = unwrap_or (phase_word_of word) (record { phase = Free; cycl
 
 -- the word of Retired
 abbrev pub retired_word : ℕ
-retired_word = 5
+retired_word = RETIRED

@@ -14,7 +14,7 @@ pub use follow::{FollowEnd, FollowMachine};
 pub use pass_view::PassView;
 pub use phase_word::{Phase, PhaseWord};
 pub use poll::{Poll, PollEnd, PollMachine};
-pub use retire::{Retire, RetireEnd, RetireMachine};
+pub use retire::{Retire, RetireMachine};
 
 #[cfg(test)]
 mod tests;

@@ -2,9 +2,10 @@
 
 ghost use Rattle.std.specs.Prelude.{◌≡◌, IsSome};
 ghost use Rattle.handshakes.specs.PhaseWords.{phase_word_of, phase_word_at};
+ghost use Rattle.handshakes.specs.Retires.{retired_view};
 
 use crate::follow::phase_at;
-use crate::phase_word::Phase;
+use crate::phase_word::{Phase, RETIRED};
 
 /// The number of a pass, the phase word that it has acknowledged, and its mark, 0 for none.
 #[derive(Clone, Copy, Debug, PartialEq, Eq)]
@@ -21,5 +22,16 @@ impl PassView {
         ensures { result ≡ (phase_word_at self.now.acked).phase }
     {
         phase_at(self.acked).phase
+    }
+
+    /// What the pass knows once it has retired: Retired is acknowledged, and it has no mark.
+    pub fn retired(&self) -> PassView
+        ensures { result ≡ retired_view self.now.pass }
+    {
+        PassView {
+            pass: self.pass,
+            acked: RETIRED,
+            mark: 0,
+        }
     }
 }

@@ -11,7 +11,7 @@ use crate::follow::{phase_at, place_by};
 use crate::pass_view::PassView;
 use crate::phase_word::Phase;
 use call_steps::{CallMachine, Machine, Step};
-use heap_words::{FieldWord, Layout};
+use heap_words::{FieldWord, Layout, REGISTERS};
 
 /// What a poll works on: the addresses of its words, and what the pass knows and holds.
 #[derive(Clone, Copy, Debug, PartialEq, Eq)]
@@ -21,14 +21,14 @@ pub struct Poll {
     pub ack_at: u32,
     pub view: PassView,
     /// The registers `a` to `h`.
-    pub registers: [FieldWord; 8],
+    pub registers: [FieldWord; REGISTERS],
 }
 
 /// What the pass knows and holds after a poll.
 #[derive(Clone, Copy, Debug, PartialEq, Eq)]
 pub struct PollEnd {
     pub view: PassView,
-    pub registers: [FieldWord; 8],
+    pub registers: [FieldWord; REGISTERS],
 }
 
 /// Loads the phase word, and ends where it is the acknowledged one. Otherwise it does the phase's work:
@@ -69,7 +69,7 @@ impl Poll {
     fn follow_from(&self, word: u64, first: usize) -> PollMachine
         ensures { result ≡ follow_from self.now word first (drop first self.now.registers) }
     {
-        for register in first..8 {
+        for register in first..REGISTERS {
             if let FieldWord::Link { birth, at } = self.registers[register] {
                 return PollMachine::Follow {
                     poll: *self,
@@ -88,7 +88,7 @@ impl Poll {
         ensures { result ≡ followed self.now register birth at }
     {
         let mut next = *self;
-        if register < 8 {
+        if (register as usize) < REGISTERS {
             next.registers[register as usize] = FieldWord::Link { birth, at };
         }
         next
@@ -124,7 +124,7 @@ impl Poll {
         ensures value { result ≡ length self.now.registers - first + 2 }
         ensures small { result ≤ 10 }
     {
-        8u32.saturating_sub(first) + 2
+        (REGISTERS as u32).saturating_sub(first) + 2
     }
 
     /// The same with those behind a register.
@@ -155,7 +155,7 @@ impl PollMachine {
     ghost use Rattle.handshakes.specs.Polls.{poll_of, asks_of, left_of, end_of};
 
     /// The poll of a pass that holds these words in its registers.
-    pub fn new(layout: &Layout, view: PassView, registers: [FieldWord; 8]) -> PollMachine
+    pub fn new(layout: &Layout, view: PassView, registers: [FieldWord; REGISTERS]) -> PollMachine
         requires pass { IsPass layout.now view.pass }
         requires acked { IsSome (phase_word_of view.acked) }
         requires registers { All IsFieldWord registers }

@@ -9,25 +9,18 @@ ghost use Rattle.handshakes.specs.PhaseWords.{phase_word_of};
 use crate::pass_view::PassView;
 use crate::phase_word::RETIRED;
 use call_steps::{CallMachine, Machine, Step};
-use heap_words::{FieldWord, Layout, pack};
+use heap_words::{FieldWord, Layout, REGISTERS, pack};
 
 /// What a retirement stores, and where.
 #[derive(Clone, Copy, Debug, PartialEq, Eq)]
 pub struct Retire {
-    pub pass: u32,
     /// The address of the root word of the register `h`; those of `a` to `g` stand before it.
     pub last_root_at: u32,
     /// The words of the registers `a` to `h`.
-    pub words: [u64; 8],
+    pub words: [u64; REGISTERS],
     /// The address of the word of the region in which the pass made its last objects, if it has one.
     pub region_at: Option<u32>,
     pub ack_at: u32,
-}
-
-/// What is known of a pass that has retired: Retired is acknowledged, and it has no mark.
-#[derive(Clone, Copy, Debug, PartialEq, Eq)]
-pub struct RetireEnd {
-    pub view: PassView,
 }
 
 /// Stores the registers in the pass's root words, `a` first; then Filled in the word of its region, if it
@@ -40,19 +33,22 @@ pub enum RetireMachine {
     Region { retire: Retire, at: u32 },
     /// Stores Retired in the acknowledgement.
     Acknowledge(Retire),
-    Ended(RetireEnd),
+    Ended,
 }
+
+/// How many registers come after `a`.
+const LAST_REGISTER: u16 = REGISTERS as u16 - 1;
 
 /// The word of a region to which nobody adds objects: Filled.
 const FILLED: u64 = 2;
 
 /// The words of registers.
-fn words_of(registers: [FieldWord; 8]) -> [u64; 8]
+fn words_of(registers: [FieldWord; REGISTERS]) -> [u64; REGISTERS]
     requires { All IsFieldWord registers }
     ensures { result ≡ map word_of registers }
 {
-    let mut words = [0; 8];
-    for i in 0..8 {
+    let mut words = [0; REGISTERS];
+    for i in 0..REGISTERS {
         words[i] = pack(registers[i]);
     }
     words
@@ -76,7 +72,7 @@ impl Retire {
     {
         Step::Store {
             at: self.last_root_at.saturating_sub(u32::from(behind)),
-            put: self.words[7usize.saturating_sub(usize::from(behind))],
+            put: self.words[(REGISTERS - 1).saturating_sub(usize::from(behind))],
         }
     }
 
@@ -100,19 +96,18 @@ impl RetireMachine {
     pub fn new(
         layout: &Layout,
         view: PassView,
-        registers: [FieldWord; 8],
+        registers: [FieldWord; REGISTERS],
         region: Option<u32>,
     ) -> RetireMachine
         requires pass { IsPass layout.now view.pass }
         requires acked { IsSome (phase_word_of view.acked) }
         requires registers { All IsFieldWord registers }
         requires region { ForSome region (IsRegion layout.now) }
-        ensures machine { result ≡ RetireMachine.Root (retire_of layout.now view.pass registers region) 7 }
+        ensures machine { result ≡ RetireMachine.Root (retire_of layout.now view.pass registers region) LAST_REGISTER }
         ensures steps { left_of result ≤ 10 }
     {
         let retire = Retire {
-            pass: view.pass,
-            last_root_at: layout.root_at(view.pass, 7),
+            last_root_at: layout.root_at(view.pass, LAST_REGISTER.into()),
             words: words_of(registers),
             region_at: match region {
                 Some(region) => Some(layout.region_at(region)),
@@ -120,16 +115,20 @@ impl RetireMachine {
             },
             ack_at: layout.ack_at(view.pass),
         };
-        RetireMachine::Root { retire, behind: 7 }
+        RetireMachine::Root {
+            retire,
+            behind: LAST_REGISTER,
+        }
     }
 
-    /// How it ended, or `None` while it asks for a step.
-    pub fn end(&self) -> Option<RetireEnd>
+    /// That it has ended, or `None` while it asks for a step. The pass then knows what
+    /// [`PassView::retired`] says.
+    pub fn end(&self) -> Option<()>
         ensures value { result ≡ end_of self.now }
         ensures ended { IsSome result ↔ (asks_of self.now ≡ Ended) }
     {
         match *self {
-            RetireMachine::Ended(end) => Some(end),
+            RetireMachine::Ended => Some(()),
             _ => None,
         }
     }
@@ -152,7 +151,7 @@ impl Machine for RetireMachine {
                 at: retire.ack_at,
                 put: RETIRED,
             },
-            RetireMachine::Ended(_) => Step::Ended,
+            RetireMachine::Ended => Step::Ended,
         }
     }
 
@@ -164,14 +163,7 @@ impl Machine for RetireMachine {
             },
             RetireMachine::Root { retire, .. } => retire.stored_all(),
             RetireMachine::Region { retire, .. } => RetireMachine::Acknowledge(retire),
-            RetireMachine::Acknowledge(retire) => RetireMachine::Ended(RetireEnd {
-                view: PassView {
-                    pass: retire.pass,
-                    acked: RETIRED,
-                    mark: 0,
-                },
-            }),
-            RetireMachine::Ended(end) => RetireMachine::Ended(end),
+            RetireMachine::Acknowledge(_) | RetireMachine::Ended => RetireMachine::Ended,
         };
     }
 }
@@ -192,7 +184,7 @@ impl CallMachine for RetireMachine {
             RetireMachine::Root { behind, .. } => left_with(behind),
             RetireMachine::Region { .. } => 2,
             RetireMachine::Acknowledge(_) => 1,
-            RetireMachine::Ended(_) => 0,
+            RetireMachine::Ended => 0,
         }
     }
 }

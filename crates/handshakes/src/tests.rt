@@ -168,12 +168,13 @@ fn retires_with_its_roots(rt: HostRuntime) -> Result<(), Fail> {
         assert!(rt; PhaseWord::unpack(8).is_some());
         let mut machine = RetireMachine::new(&layout, view, registers, region);
         assert_eq!(rt; play(&rt, &mut words, &mut machine), steps);
+        assert_eq!(rt; machine.end(), Some(()));
         let retired = PassView {
             pass: 1,
             acked: 5,
             mark: 0,
         };
-        assert_eq!(rt; machine.end(), Some(RetireEnd { view: retired }));
+        assert_eq!(rt; view.retired(), retired);
         for (at, want) in [
             (3, 5),
             (4, 0x5),
