@@ -1,3 +1,4 @@
 pub mod WorkedSession
 pub mod Objects
+pub mod Insertions
 pub mod Refusals

@@ -12,6 +12,8 @@ use Rattle.heap_history.specs.HistoryLaws.{heap_after-append, calls-append, IsAc
 use Rattle.heap_history.specs.Faults.{Says}
 use Rattle.heap_history.specs.LastWrites.{HoldsLastWrites}
 use Rattle.heap_history.specs.LastWriteLaws.{last_writes}
+use Rattle.heap_history.specs.Arranged.{AreLegal}
+use Rattle.heap_history.specs.ShownLaws.{accepted_legal}
 
 -- one more entry that is not bad
 pub step : (es : List Entry) (i : ℕ) (d : Entry) (heap later : Heap) (wanted : Reply) → i < length es → IsAccepted opening (take i es) → heap ≡ heap_after opening (calls (take i es)) → wanted ≡ answer heap (get_or es i d).call → later ≡ after heap (get_or es i d).call → wanted ≡ (get_or es i d).reply → wanted ≢ NotThere → IsAccepted opening (take (i + 1) es) × (later ≡ heap_after opening (calls (take (i + 1) es)))
@@ -42,3 +44,8 @@ module _ {T : Type 0} where
   pub holds_last : (es : List Entry) (result : Result T CheckFault) → OnOk result (IsAccepted opening es) → OnOk result (HoldsLastWrites es)
   holds_last es (Ok x) ok = last_writes es ok
   holds_last es (Err fault) ok = tt
+
+  -- and they are a legal history
+  pub are_legal : (es : List Entry) (result : Result T CheckFault) → OnOk result (IsAccepted opening es) → OnOk result (AreLegal es)
+  are_legal es (Ok x) ok = accepted_legal es ok
+  are_legal es (Err fault) ok = tt

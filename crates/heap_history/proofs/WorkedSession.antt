@@ -37,10 +37,10 @@ session_is_legal = record {
   passes = All-from_recursion (λ c. (1 ≤ pass_of c) × (pass_of c ≤ 1)) (made ∷ written ∷ []) ((lit≤ tt, lit≤ tt), ((lit≤ tt, lit≤ tt), tt));
   follows = (
     (
-      record { later = lit≤ tt; within = lit≤ tt; own = refl; last = λ _. refl; reply = refl },
+      record { own_call = refl; there = λ e. cc; later = lit≤ tt; within = lit≤ tt; own = refl; last = λ _. refl; reply = refl },
       (
-        record { later = lit≤ tt; within = lit≤ tt; own = refl; last = λ _. refl; reply = refl },
-        (record { later = lit≤ tt; within = lit≤ tt; own = refl; last = λ e. cc; reply = refl }, refl),
+        record { own_call = refl; there = λ e. cc; later = lit≤ tt; within = lit≤ tt; own = refl; last = λ _. refl; reply = refl },
+        (record { own_call = refl; there = λ e. cc; later = lit≤ tt; within = lit≤ tt; own = refl; last = λ e. cc; reply = refl }, refl),
       ),
     ),
     tt,

@@ -3,6 +3,7 @@ use Rattle.std.specs.Prelude.{ℕ, ◌+◌, ◌*◌, List, [], ◌∷◌, Bool, 
 use Rattle.std.specs.Ordering.{nat_cmp}
 use Rattle.std.specs.Map.{lookup, set_value}
 use Rattle.std.specs.BTreeMap.{is_at, insert_entry}
+use Rattle.heap_words.specs.declared.limits.TheConstants.{BIRTHS_BETWEEN_PASSES, BIRTHS_OF_PASS, COMMON_BIRTH, COMMON_LEN}
 use Rattle.heap_history.specs.declared.call.Value.{Value}
 use Rattle.heap_history.specs.declared.call.Value.TheVariants.{Num, Object}
 use Rattle.heap_history.specs.declared.call.Call.{Call}
@@ -22,9 +23,9 @@ objects_of (e ∷ es) = (e.0, e.1.items) ∷ objects_of es
 abbrev pub zeros : ℕ → List Value
 zeros len = replicate len (Num 0)
 
--- At the start there is the object with birth number 1, of eight zeros.
+-- At the start there is the common object, of zeros.
 abbrev pub opening : Heap
-opening = (1, zeros 8) ∷ []
+opening = (COMMON_BIRTH, zeros COMMON_LEN) ∷ []
 
 -- the fields of an object, where it is there
 abbrev pub fields_of : Heap → ℕ → Option (List Value)
@@ -51,10 +52,10 @@ is_there heap (Object birth) = is_some (fields_of heap birth)
 
 -- the first and the last birth number of a pass
 abbrev pub first_birth : ℕ → ℕ
-first_birth pass = pass * 524288 + 1
+first_birth pass = pass * BIRTHS_BETWEEN_PASSES + 1
 
 abbrev pub last_birth : ℕ → ℕ
-last_birth pass = pass * 524288 + 262144
+last_birth pass = pass * BIRTHS_BETWEEN_PASSES + BIRTHS_OF_PASS
 
 abbrev pub is_birth_of : ℕ → ℕ → Bool
 is_birth_of pass birth = nat_le (first_birth pass) birth && nat_le birth (last_birth pass)

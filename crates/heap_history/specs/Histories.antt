@@ -75,9 +75,12 @@ change_of call reply = if is_change reply then call ∷ [] else []
 abbrev pub seen_before : Reply → ℕ → ℕ
 seen_before reply front = if is_change reply then front - 1 else front
 
--- An ended call of a pass that has seen n changes. Its front is no earlier and lies in the history; of the changes
--- from there to the front the pass's own are those of the call, a change being the last; the reply is the heap's.
+-- An ended call of a pass that has seen n changes, of an object that is there. Its front is no earlier and lies in the
+-- history; of the changes from there to the front the pass's own are those of the call, a change being the last; the
+-- reply is the heap's.
 pub record IsNext (history : List Call) (pass n : ℕ) (e : Ended) : Type 0 where
+  pub own_call : pass_of e.call ≡ pass
+  pub there : e.reply ≢ NotThere
   pub later : n ≤ e.front
   pub within : e.front ≤ length history
   pub own : made_by pass (between n e.front history) ≡ change_of e.call e.reply

@@ -1,5 +1,5 @@
 -- Laws of heaps and histories over variables, for crates that reason about them.
-use Rattle.std.specs.Prelude.{◌≡◌, ◌≢◌, ℕ, zero, suc, ◌+◌, ◌-◌, ◌≤◌, ◌<◌, List, [], ◌∷◌, ◌++◌, length, take, drop, Bool, true, false, cond, if◌then◌else◌, IsTrue, Option, Some, None, is_some, IsSome, slice_get, slice_set}
+use Rattle.std.specs.Prelude.{◌≡◌, ◌≢◌, ℕ, zero, suc, ◌≤◌, ◌<◌, List, [], ◌∷◌, ◌++◌, length, take, Bool, true, false, cond, if◌then◌else◌, IsTrue, Option, Some, None, is_some, IsSome, slice_get, slice_set}
 use Rattle.std.specs.declared.cmp.Ordering.{Ordering}
 use Rattle.std.specs.declared.cmp.Ordering.TheVariants.{Less, Equal, Greater}
 use Rattle.std.specs.Ordering.{nat_cmp, is_eq, match_ordering}
@@ -7,10 +7,10 @@ use Rattle.std.specs.List.{filter}
 use Rattle.std.specs.Map.{set_value}
 use Rattle.std.specs.BTreeMap.{is_at, insert_entry}
 use Rattle.std.proofs.Common.{refl, sym, ap, subst, ◌∙◌, ⊎_elim, arith}
-use Rattle.std.proofs.Math.Seq.{take-length, drop-append_seam}
-use Rattle.std.proofs.lemmas.Bool.{cases_eq, cases_lt, cases_order, ne_eqb, eq-eqb, true≢false}
+use Rattle.std.proofs.Math.Seq.{take-length}
+use Rattle.std.proofs.lemmas.Bool.{cases_eq, cases_order, ne_eqb, true≢false}
 use Rattle.std.proofs.lemmas.Cmp.{tied_itself, nat_cmp_total, eq_by_cmp_equiv}
-use Rattle.std.proofs.lemmas.List.{take-append-le, drop-append-le, map-append, length-append, length-drop}
+use Rattle.std.proofs.lemmas.List.{take-append-le, map-append}
 use Rattle.std.proofs.lemmas.List.Elements.{filter-append}
 use Rattle.std.proofs.lemmas.Option.{same_Some}
 use Rattle.std.proofs.lemmas.Map.{lookup-set_value}
@@ -21,11 +21,10 @@ use Rattle.heap_history.specs.declared.call.Value.{Value}
 use Rattle.heap_history.specs.declared.call.Call.{Call}
 use Rattle.heap_history.specs.declared.call.Call.TheVariants.{NewObject, Read, Write, Exchange}
 use Rattle.heap_history.specs.declared.call.Reply.{Reply}
-use Rattle.heap_history.specs.declared.call.Reply.TheVariants.{Made, Got, Wrote, Done, Differs, NotThere}
+use Rattle.heap_history.specs.declared.call.Reply.TheVariants.{Made, Wrote, Done, NotThere}
 use Rattle.heap_history.specs.declared.call.Entry.{Entry}
-use Rattle.heap_history.specs.declared.call.Ended.{Ended}
 use Rattle.heap_history.specs.FixedHeaps.{Heap, opening, fields_of, field_in, value_in, with_field, write_in, answer, changed, after}
-use Rattle.heap_history.specs.Histories.{pass_of, is_change, IsAccepted, heap_after, calls, changes, heap_at, IsHistory, made_by, between, change_of, seen_before, IsNext, IsFirstBad}
+use Rattle.heap_history.specs.Histories.{is_change, IsAccepted, heap_after, calls, changes, heap_at, IsHistory, change_of, IsFirstBad}
 
 -- ---- the fields of an object after a change
 
@@ -210,66 +209,6 @@ heap_at-append history more n within = ap (λ first. heap_after opening first) (
 -- the heap after all of them
 pub heap_at-length : (history : List Call) → heap_at history (length history) ≡ heap_after opening history
 heap_at-length history = ap (λ all. heap_after opening all) (take-length history)
-
--- what stands between two changes stays the same
-pub between-append : (n m : ℕ) (history more : List Call) → m ≤ length history → between n m (history ++ more) ≡ between n m history
-between-append n m history more within =
-    ⊎_elim
-    (λ past. let none : m - n ≡ 0 = omega arith in ap (λ k. take k (drop n (history ++ more))) none ∙ sym (ap (λ k. take k (drop n history)) none))
-    (λ before. ap (λ rest. take (m - n) rest) (drop-append-le n history more before) ∙ take-append-le (m - n) (drop n history) more (omega (arith, length-drop n history)))
-    (cases_lt (length history) n)
-
--- nothing stands behind all of them
-pub between-same : (n : ℕ) (history : List Call) → between n n history ≡ []
-between-same n history = let none : n - n ≡ 0 = omega arith in ap (λ k. take k (drop n history)) none
-
--- of one more change, what stands behind those before it
-pub between-push : (history : List Call) (call : Call) → between (length history) (length history + 1) (history ++ call ∷ []) ≡ call ∷ []
-between-push history call =
-    let one : length history + 1 - length history ≡ 1 = omega arith in
-    ap (λ k. take k (drop (length history) (history ++ call ∷ []))) one ∙ ap (λ rest. take 1 rest) (drop-append_seam history (call ∷ []))
-
--- what had come before a call is no later than its front
-pub seen_before-le : (reply : Reply) (front m : ℕ) → front ≤ m → seen_before reply front ≤ m
-seen_before-le Made front m within = omega arith
-seen_before-le (Got value) front m within = within
-seen_before-le Wrote front m within = omega arith
-seen_before-le Done front m within = omega arith
-seen_before-le (Differs value) front m within = within
-seen_before-le NotThere front m within = within
-
--- a pass's next call stays so
-pub IsNext-append : (history more : List Call) (pass n : ℕ) (e : Ended) → IsNext history pass n e → IsNext (history ++ more) pass n e
-IsNext-append history more pass n e next = record {
-  later = next.later;
-  within = omega (arith, next.within, length-append history more);
-  own = ap (made_by pass) (between-append n e.front history more next.within) ∙ next.own;
-  last = λ change. slice_get-append history more (e.front - 1) e.call (next.last change);
-  reply = ap (λ heap. answer heap e.call) (heap_at-append history more (seen_before e.reply e.front) (seen_before-le e.reply e.front (length history) next.within)) ∙ next.reply;
-}
-
--- A look at the heap as it is is a pass's next call where the pass has seen all changes.
-pub IsNext-look : (history : List Call) (pass : ℕ) (call : Call) (reply : Reply) → is_change reply ≡ false → answer (heap_after opening history) call ≡ reply → IsNext history pass (length history) (record { call = call; reply = reply; front = length history })
-IsNext-look history pass call reply look told = record {
-  later = omega arith;
-  within = omega arith;
-  own = ap (made_by pass) (between-same (length history) history) ∙ sym (ap (λ change. if change then call ∷ [] else []) look);
-  last = λ change. absurd (true≢false (sym change ∙ look));
-  reply = ap (λ n. answer (heap_at history n) call) (ap (λ change. if change then length history - 1 else length history) look) ∙ ap (λ heap. answer heap call) (heap_at-length history) ∙ told;
-}
-
--- A change that comes behind all others is a pass's next call where the pass has seen them.
-pub IsNext-change : (history : List Call) (pass : ℕ) (call : Call) (reply : Reply) → IsTrue (is_change reply) → pass_of call ≡ pass → answer (heap_after opening history) call ≡ reply → IsNext (history ++ call ∷ []) pass (length history) (record { call = call; reply = reply; front = length history + 1 })
-IsNext-change history pass call reply change own told =
-    let before : length history + 1 - 1 ≡ length history = omega arith in
-    let seen : seen_before reply (length history + 1) ≡ length history = ap (λ b. if b then length history + 1 - 1 else length history + 1) change ∙ before in
-    record {
-      later = omega arith;
-      within = omega (arith, length-append history (call ∷ []));
-      own = ap (made_by pass) (between-push history call) ∙ ap (λ b. cond b (call ∷ []) []) (eq-eqb (pass_of call) pass own) ∙ sym (ap (λ b. if b then call ∷ [] else []) change);
-      last = λ _. ap (λ i. slice_get (history ++ call ∷ []) i) before ∙ slice_get-push history call;
-      reply = ap (λ n. answer (heap_at (history ++ call ∷ []) n) call) seen ∙ ap (λ heap. answer heap call) (heap_at-append history (call ∷ []) (length history) (omega arith) ∙ heap_at-length history) ∙ told;
-    }
 
 -- ---- the first bad entry
 

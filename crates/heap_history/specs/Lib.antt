@@ -1,6 +1,16 @@
 pub mod FixedHeaps
 pub mod Histories
 pub mod HistoryLaws
+pub mod NextLaws
+pub mod ObjectLaws
+pub mod NewestFirst
+pub mod NewestFirstLaws
+pub mod ValueLaws
+pub mod Logs
+pub mod LogLaws
+pub mod Arranged
+pub mod ArrangedLaws
+pub mod ShownLaws
 pub mod Faults
 pub mod LastWrites
 pub mod LastWriteLaws

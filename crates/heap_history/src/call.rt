@@ -1,5 +1,7 @@
 //! Calls of a heap and their replies.
 
+ghost use Rattle.std.specs.Prelude.{◌≡◌};
+
 /// What a field holds: a number below 2^48, or an object, named by its birth number. The object that is
 /// there from the start has birth number 1, and the s-th object of pass p has p * 524,288 + s.
 #[derive(Clone, Copy, Debug, PartialEq, Eq)]
@@ -46,6 +48,17 @@ pub enum Reply {
     Done,
     Differs(Value),
     NotThere,
+}
+
+impl Reply {
+    ghost use Rattle.heap_history.specs.Histories.{is_change};
+
+    /// Whether a call with this reply is a change: a new object, a write, or an exchange that was done.
+    pub fn is_change(self) -> bool
+        ensures { result ≡ is_change self }
+    {
+        matches!(self, Reply::Made | Reply::Wrote | Reply::Done)
+    }
 }
 
 /// A call and its reply, as one line of a history.

@@ -7,6 +7,7 @@ ghost use Rattle.heap_history.specs.FixedHeaps.{opening};
 ghost use Rattle.heap_history.specs.Histories.{IsAccepted, IsFirstBad};
 ghost use Rattle.heap_history.specs.Faults.{Says};
 ghost use Rattle.heap_history.specs.LastWrites.{HoldsLastWrites};
+ghost use Rattle.heap_history.specs.Arranged.{AreLegal};
 
 use crate::call::{Entry, Reply};
 use crate::fixed_heap::FixedHeap;
@@ -55,8 +56,8 @@ fn first_bad(alloc: Global, entries: &[Entry]) -> Result<(), CheckFault>
 }
 
 /// Whether a fixed heap, called from its opening on, gives the replies of the entries, one after another,
-/// and never `NotThere`. Where it does, each field that is there in the end holds the value that was last
-/// written to it, or 0.
+/// and never `NotThere`. Where it does, they are a legal history, and each field that is there in the end holds
+/// the value that was last written to it, or 0.
 ///
 /// # Errors
 ///
@@ -72,6 +73,7 @@ pub fn check_history(alloc: Global, entries: &[Entry]) -> Result<(), CheckFault>
     ensures refuses { (index : ℕ) (wanted found : Reply) → IsFirstBad entries.now index wanted found →
         IsErrOf result (CheckFault.BadEntry index wanted found) ⊎ IsErrOf result CheckFault.OutOfMemory }
 
+    ensures legal { OnOk result (AreLegal entries.now) }
     ensures last_writes { OnOk result (HoldsLastWrites entries.now) }
 {
     first_bad(alloc, entries)

@@ -4,21 +4,13 @@ ghost use Rattle.std.specs.Prelude.{◌≡◌, ℕ, IsTrue, IsSome, IfOk, OnOk, 
 ghost use Rattle.heap_history.specs.FixedHeaps.{opening, is_birth_of, is_there, value_in, write_in, answer, after, is_new_object};
 
 use crate::call::{Call, Reply, Value};
+use heap_words::{BIRTHS_BETWEEN_PASSES, BIRTHS_OF_PASS, COMMON_BIRTH, COMMON_LEN};
 use std::alloc::{AllocError, Global};
 use std::collections::BTreeMap;
 use std::marker::Model;
 
 /// There was no memory left.
 pub type OutOfMemory = AllocError;
-
-/// How far the birth numbers of one pass lie from those of the next.
-const PASS_SPAN: u64 = 524_288;
-
-/// How many objects a pass can make.
-const BIRTHS: u64 = 262_144;
-
-/// The fields of the object that is there from the start.
-const OPENING_LEN: usize = 8;
 
 /// A heap whose objects never move. Each object has a birth number and fields, and none is ever removed.
 /// It is seen as the list of its birth numbers, in rising order, with the values of the fields.
@@ -40,8 +32,8 @@ impl Model for FixedHeap {
 fn is_birth_of(pass: u32, birth: u32) -> bool
     ensures { result ≡ is_birth_of pass birth }
 {
-    let base = pass as u64 * PASS_SPAN;
-    base < birth as u64 && birth as u64 <= base + BIRTHS
+    let base = pass as u64 * u64::from(BIRTHS_BETWEEN_PASSES);
+    base < birth as u64 && birth as u64 <= base + u64::from(BIRTHS_OF_PASS)
 }
 
 impl FixedHeap {
@@ -51,7 +43,8 @@ impl FixedHeap {
         ensures { IfOk result (λ heap. heap ≡ opening) }
     {
         let mut objects = BTreeMap::new(alloc);
-        objects.insert(1, vec![in alloc; Value::Num(0); OPENING_LEN]?)?;
+        let fields = vec![in alloc; Value::Num(0); COMMON_LEN as usize]?;
+        objects.insert(COMMON_BIRTH, fields)?;
         Ok(FixedHeap { alloc, objects })
     }
 
