@@ -19,7 +19,7 @@ use Rattle.heap_script.specs.Grammar.{◌>>=◌, due, place, operand, new_argume
 use Rattle.heap_script.specs.Scripts.{Reading, OperandFits, CommandFits, LineFits, Fits}
 use Rattle.heap_script.specs.Text.{letter, place_word, operand_word, command_words, line_words, later_words, heading_words, spaced, line_text, text_of}
 use Rattle.heap_script.proofs.Numbers.{digit_range}
-use Rattle.heap_script.proofs.Again.{IsWord, is_graphic, decimal_word, number_again, number_in_again, first_digit, register_again, words_spaced, spaced_plain, lines_line}
+use Rattle.heap_script.proofs.ReadBack.{IsWord, is_graphic, decimal_word, number_again, number_in_again, first_digit, register_again, words_spaced, spaced_plain, lines_line}
 
 -- ---- places
 

@@ -45,11 +45,11 @@ answers_are_allowed = record {
       fronts = 1 ∷ 2 ∷ 2 ∷ 2 ∷ 2 ∷ [];
       last = last_seat;
       run = (
-        (refl, record { later = lit≤ tt; within = lit≤ tt; own = refl; last = λ _. refl; reply = refl }),
+        (refl, record { own_call = refl; there = λ e. cc; later = lit≤ tt; within = lit≤ tt; own = refl; last = λ _. refl; reply = refl }),
         (
-          (tt, record { later = lit≤ tt; within = lit≤ tt; own = refl; last = λ _. refl; reply = refl }),
+          (tt, record { own_call = refl; there = λ e. cc; later = lit≤ tt; within = lit≤ tt; own = refl; last = λ _. refl; reply = refl }),
           (
-            (tt, record { later = lit≤ tt; within = lit≤ tt; own = refl; last = λ e. cc; reply = refl }),
+            (tt, record { own_call = refl; there = λ e. cc; later = lit≤ tt; within = lit≤ tt; own = refl; last = λ e. cc; reply = refl }),
             (
               (refl, tt),
               (

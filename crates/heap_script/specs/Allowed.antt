@@ -4,6 +4,7 @@ use Rattle.std.specs.List.{filter, All}
 use Rattle.heap_words.specs.declared.operand.Operand.{Operand}
 use Rattle.heap_words.specs.declared.operand.Operand.TheVariants as operands
 use Rattle.heap_words.specs.Packing.{packing}
+use Rattle.heap_words.specs.declared.limits.TheConstants.{BIRTHS_BETWEEN_PASSES}
 use Rattle.heap_history.specs.declared.call.Value.{Value}
 use Rattle.heap_history.specs.declared.call.Value.TheVariants.{Num, Object}
 use Rattle.heap_history.specs.declared.call.Call.{Call}
@@ -39,7 +40,7 @@ value_of seat (operands.Reg register) = held seat register
 
 -- the birth number of the thread's next object
 abbrev pub next_birth : ℕ → Seat → ℕ
-next_birth thread seat = thread * 524288 + length seat.lens + 1
+next_birth thread seat = thread * BIRTHS_BETWEEN_PASSES + length seat.lens + 1
 
 -- ---- commands that are calls of the heap
 

@@ -5,6 +5,7 @@ use Rattle.std.specs.Str.{bytes_eq}
 use Rattle.std.specs.Str.Lines.{lines}
 use Rattle.std.specs.Char.{is_ascii_digit}
 use Rattle.heap_words.specs.Layouts.{Sizes}
+use Rattle.heap_words.specs.declared.limits.TheConstants.{MOST_FIELDS}
 use Rattle.heap_words.specs.LayoutFaults.{first_fault}
 use Rattle.heap_words.specs.declared.operand.Operand.{Operand}
 use Rattle.heap_words.specs.declared.operand.Operand.TheVariants as operands
@@ -53,7 +54,7 @@ unfoldable pub place : Word → Result (ℕ × ℕ) FaultKind
 place w =
     if nat_lt (position_or_len (λ b. b == 46) w) (length w) then (do
       obj ← register (before_first (λ b. b == 46) w)
-      field ← number_in 0 29 BadNumber (after_first (λ b. b == 46) w)
+      field ← number_in 0 (MOST_FIELDS - 1) BadNumber (after_first (λ b. b == 46) w)
       Ok (obj, field)) else Err BadWord
 
 -- V: a number below 2^48 where it begins with a digit, else a register
@@ -73,7 +74,7 @@ new_arguments ws = do
   a ← due ws
   dst ← register a.0
   b ← due a.1
-  len ← number_in 0 30 BadNumber b.0
+  len ← number_in 0 MOST_FIELDS BadNumber b.0
   _ ← ended b.1
   Ok (commands.New dst len)
 

@@ -3,6 +3,17 @@ pub mod Words
 pub mod Scripts
 pub mod Grammar
 pub mod FirstFault
+pub mod UniqueLaws
 pub mod Text
 pub mod Gives
 pub mod AnswerLists
+pub mod Commands
+pub mod CommandLaws
+pub mod SumLaws
+pub mod Tellings
+pub mod TellingSteps
+pub mod TellingLaws
+pub mod RunLaws
+pub mod SeenLaws
+pub mod TellsLaws
+pub mod AllowedLaws

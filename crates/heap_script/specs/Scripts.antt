@@ -1,7 +1,8 @@
 -- What a script says, and which scripts can be written down.
-use Rattle.std.specs.Prelude.{ℕ, ◌^◌, ◌<◌, ◌≤◌, List, length}
+use Rattle.std.specs.Prelude.{ℕ, ◌-◌, ◌<◌, ◌≤◌, List, length}
 use Rattle.std.specs.List.{All}
 use Rattle.heap_words.specs.Layouts.{Sizes, IsLayout}
+use Rattle.heap_words.specs.declared.limits.TheConstants.{NUMBER_LIMIT, MOST_FIELDS, REGISTERS}
 use Rattle.heap_words.specs.declared.operand.Operand.{Operand}
 use Rattle.heap_words.specs.declared.operand.Operand.TheVariants.{Num, Reg}
 use Rattle.heap_script.specs.declared.script.Command.{Command}
@@ -16,17 +17,17 @@ pub record Reading : Type 0 where
 
 -- a number below 2^48, or one of the eight registers
 abbrev pub OperandFits : Operand → Type 0
-OperandFits (Num n) = n < 2 ^ 48
-OperandFits (Reg r) = r < 8
+OperandFits (Num n) = n < NUMBER_LIMIT
+OperandFits (Reg r) = r < REGISTERS
 
--- registers are below 8, a length is at most 30, a field number at most 29
+-- registers are those of a pass, a length is at most the most fields, and a field number is below them
 abbrev pub CommandFits : Command → Type 0
-CommandFits (New dst len) = (dst < 8) × (len ≤ 30)
-CommandFits (Get dst obj field) = (dst < 8) × (obj < 8) × (field ≤ 29)
-CommandFits (Put obj field what) = (obj < 8) × (field ≤ 29) × OperandFits what
-CommandFits (Cas dst obj field expected value) = (dst < 8) × (obj < 8) × (field ≤ 29) × OperandFits expected × OperandFits value
-CommandFits (Copy dst src) = (dst < 8) × (src < 8)
-CommandFits (Drop dst) = dst < 8
+CommandFits (New dst len) = (dst < REGISTERS) × (len ≤ MOST_FIELDS)
+CommandFits (Get dst obj field) = (dst < REGISTERS) × (obj < REGISTERS) × (field ≤ MOST_FIELDS - 1)
+CommandFits (Put obj field what) = (obj < REGISTERS) × (field ≤ MOST_FIELDS - 1) × OperandFits what
+CommandFits (Cas dst obj field expected value) = (dst < REGISTERS) × (obj < REGISTERS) × (field ≤ MOST_FIELDS - 1) × OperandFits expected × OperandFits value
+CommandFits (Copy dst src) = (dst < REGISTERS) × (src < REGISTERS)
+CommandFits (Drop dst) = dst < REGISTERS
 CommandFits Poll = Unit {0}
 
 -- a command of one of the threads

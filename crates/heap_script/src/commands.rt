@@ -1,180 +1,107 @@
-//! The lines behind the heap line.
+//! What each thread of a script is to do.
 
-ghost use Rattle.std.specs.Prelude.{◌≡◌, ◌<◌, IfOk, IfSome};
-ghost use Rattle.heap_script.specs.Words.{words};
-ghost use Rattle.heap_script.specs.Scripts.{CommandFits, LineFits};
-ghost use Rattle.heap_script.specs.Gives.{Gives};
-ghost use Rattle.heap_script.specs.Grammar.{new_arguments as new_arguments_of, get_arguments as get_arguments_of, put_arguments as put_arguments_of, cas_arguments as cas_arguments_of, copy_arguments as copy_arguments_of, drop_arguments as drop_arguments_of, poll_arguments as poll_arguments_of, arguments as arguments_of, command as command_of, command_line as command_line_of};
+ghost use Rattle.std.specs.Prelude.{◌≡◌, ◌≤◌, ◌<◌, ◌^◌, length, sum_by, slice_get, IfOk};
+ghost use Rattle.heap_script.specs.Allowed.{commands_of};
+ghost use Rattle.heap_script.specs.Commands.{commands_by, commands_at, before as commands_before, total as total_of};
 
-use crate::fault::FaultKind;
-use crate::places::{due, ended, number_in, operand, place, register};
 use crate::script::{Command, Line};
-use crate::words::{all_printable, passed_over};
+use heap_history::OutOfMemory;
+use std::alloc::Global;
+use std::marker::Model;
 
-/// `R N`, behind `new`.
-#[tactic(auto, unfolding(crate::specs::Grammar::new_arguments))]
-fn new_arguments(line: &[u8]) -> Result<Command, FaultKind>
-    ensures exact { Gives (λ x. x) result (new_arguments_of (words line.now)) }
-    ensures fits { IfOk result CommandFits }
-{
-    let (word, rest) = due(line)?;
-    let dst = register(word)?;
-    let (word, rest) = due(rest)?;
-    let len = number_in(0, 30, FaultKind::BadNumber, word)?;
-    ended(rest)?;
-    Ok(Command::New {
-        dst,
-        len: len as u32,
-    })
+/// The commands of each thread, thread 1's first. Threads count from 1.
+#[derive(Drop)]
+pub struct Commands {
+    lists: Vec<Vec<Command>>,
 }
 
-/// `R S.F`, behind `get`.
-#[tactic(auto, unfolding(crate::specs::Grammar::get_arguments))]
-fn get_arguments(line: &[u8]) -> Result<Command, FaultKind>
-    ensures exact { Gives (λ x. x) result (get_arguments_of (words line.now)) }
-    ensures fits { IfOk result CommandFits }
-{
-    let (word, rest) = due(line)?;
-    let dst = register(word)?;
-    let (word, rest) = due(rest)?;
-    let (obj, field) = place(word)?;
-    ended(rest)?;
-    Ok(Command::Get { dst, obj, field })
+impl Model for Commands {
+    ghost use Rattle.std.specs.Prelude.{◌<◌, ◌^◌, List, length, map, sum_by};
+    ghost use Rattle.heap_script.specs.declared.script.Command.{Command};
+
+    ghost Value = { List (List Command) };
+
+    ghost view = { λ c. map (λ list. list.items) c.lists.items };
+
+    ghost invariant = { λ c. (length c.lists.items < 2 ^ 32) × (sum_by (λ list. length list.items) c.lists.items < 2 ^ 64) };
 }
 
-/// `S.F V`, behind `put`.
-#[tactic(auto, unfolding(crate::specs::Grammar::put_arguments))]
-fn put_arguments(line: &[u8]) -> Result<Command, FaultKind>
-    ensures exact { Gives (λ x. x) result (put_arguments_of (words line.now)) }
-    ensures fits { IfOk result CommandFits }
+/// The commands of a thread among the lines.
+fn thread_commands(alloc: Global, lines: &[Line], thread: u32) -> Result<Vec<Command>, OutOfMemory>
+    ensures { IfOk result (λ list. list.items ≡ commands_of thread lines.now) }
 {
-    let (word, rest) = due(line)?;
-    let (obj, field) = place(word)?;
-    let (word, rest) = due(rest)?;
-    let what = operand(word)?;
-    ended(rest)?;
-    Ok(Command::Put { obj, field, what })
-}
-
-/// `R S.F V V`, behind `cas`.
-#[tactic(auto, unfolding(crate::specs::Grammar::cas_arguments))]
-fn cas_arguments(line: &[u8]) -> Result<Command, FaultKind>
-    ensures exact { Gives (λ x. x) result (cas_arguments_of (words line.now)) }
-    ensures fits { IfOk result CommandFits }
-{
-    let (word, rest) = due(line)?;
-    let dst = register(word)?;
-    let (word, rest) = due(rest)?;
-    let (obj, field) = place(word)?;
-    let (word, rest) = due(rest)?;
-    let expected = operand(word)?;
-    let (word, rest) = due(rest)?;
-    let value = operand(word)?;
-    ended(rest)?;
-    Ok(Command::Cas {
-        dst,
-        obj,
-        field,
-        expected,
-        value,
-    })
-}
-
-/// `R S`, behind `copy`.
-#[tactic(auto, unfolding(crate::specs::Grammar::copy_arguments))]
-fn copy_arguments(line: &[u8]) -> Result<Command, FaultKind>
-    ensures exact { Gives (λ x. x) result (copy_arguments_of (words line.now)) }
-    ensures fits { IfOk result CommandFits }
-{
-    let (word, rest) = due(line)?;
-    let dst = register(word)?;
-    let (word, rest) = due(rest)?;
-    let src = register(word)?;
-    ended(rest)?;
-    Ok(Command::Copy { dst, src })
-}
-
-/// `R`, behind `drop`.
-#[tactic(auto, unfolding(crate::specs::Grammar::drop_arguments))]
-fn drop_arguments(line: &[u8]) -> Result<Command, FaultKind>
-    ensures exact { Gives (λ x. x) result (drop_arguments_of (words line.now)) }
-    ensures fits { IfOk result CommandFits }
-{
-    let (word, rest) = due(line)?;
-    let dst = register(word)?;
-    ended(rest)?;
-    Ok(Command::Drop { dst })
-}
-
-/// Nothing, behind `poll`.
-#[tactic(auto, unfolding(crate::specs::Grammar::poll_arguments))]
-fn poll_arguments(line: &[u8]) -> Result<Command, FaultKind>
-    ensures exact { Gives (λ x. x) result (poll_arguments_of (words line.now)) }
-    ensures fits { IfOk result CommandFits }
-{
-    ended(line)?;
-    Ok(Command::Poll)
-}
-
-/// What stands behind a command's name.
-#[tactic(auto, unfolding(crate::specs::Grammar::arguments))]
-fn arguments(name: &[u8], line: &[u8]) -> Result<Command, FaultKind>
-    ensures exact { Gives (λ x. x) result (arguments_of name.now (words line.now)) }
-    ensures fits { IfOk result CommandFits }
-{
-    if name == b"new".as_slice() {
-        new_arguments(line)
-    } else if name == b"get".as_slice() {
-        get_arguments(line)
-    } else if name == b"put".as_slice() {
-        put_arguments(line)
-    } else if name == b"cas".as_slice() {
-        cas_arguments(line)
-    } else if name == b"copy".as_slice() {
-        copy_arguments(line)
-    } else if name == b"drop".as_slice() {
-        drop_arguments(line)
-    } else if name == b"poll".as_slice() {
-        poll_arguments(line)
-    } else {
-        Err(FaultKind::BadWord)
+    let mut list = Vec::new(alloc);
+    for line in lines {
+        if line.thread == thread {
+            list.push(line.command)?;
+        }
     }
+    Ok(list)
 }
 
-/// `T NAME ..`, with one of `passes` threads.
-#[tactic(auto, unfolding(crate::specs::Grammar::command))]
-fn command(passes: u32, line: &[u8]) -> Result<Line, FaultKind>
-    ensures exact { Gives (λ x. x) result (command_of passes (words line.now)) }
-    ensures fits { IfOk result (LineFits passes) }
+/// How many commands the lists have together.
+fn count_all(lists: &[Vec<Command>]) -> usize
+    requires { sum_by (λ list. length list.items) lists.now < 2 ^ 64 }
+    ensures { result ≡ sum_by (λ list. length list.items) lists.now }
 {
-    let (word, rest) = due(line)?;
-    let thread = number_in(1, u64::from(passes), FaultKind::BadThread, word)?;
-    let (name, rest) = due(rest)?;
-    let command = arguments(name, rest)?;
-    Ok(Line {
-        thread: thread as u32,
-        command,
-    })
+    let mut count = 0;
+    for list in lists {
+        count += list.len();
+    }
+    count
 }
 
-/// What a line says behind the heap line and `count` commands: nothing, or a command.
-#[tactic(auto, unfolding(crate::specs::Grammar::command_line))]
-pub(crate) fn command_line(
-    passes: u32,
-    count: usize,
-    line: &[u8],
-) -> Result<Option<Line>, FaultKind>
-    ensures exact { Gives (λ x. x) result (command_line_of passes count line.now) }
-    ensures fits { IfOk result (λ said. IfSome said (λ l. LineFits passes l × (count < 65536))) }
-{
-    if !all_printable(line) {
-        Err(FaultKind::NotAscii)
-    } else if passed_over(line) {
-        Ok(None)
-    } else if 65_536 <= count {
-        Err(FaultKind::TooManyLines)
-    } else {
-        let c = command(passes, line)?;
-        Ok(Some(c))
+impl Commands {
+    /// Those of the first `threads` threads among the lines, each thread's in order.
+    pub fn of_lines(alloc: Global, lines: &[Line], threads: u32) -> Result<Commands, OutOfMemory>
+        ensures { IfOk result (λ commands. commands ≡ commands_by threads lines.now) }
+    {
+        let mut lists = Vec::new(alloc);
+        for thread in 0..threads {
+            let list = thread_commands(alloc, lines, thread + 1)?;
+            lists.push(list)?;
+        }
+        Ok(Commands { lists })
+    }
+
+    /// How many threads there are.
+    pub fn threads(&self) -> u32
+        ensures { result ≡ length self.now }
+    {
+        self.lists.len() as u32
+    }
+
+    /// The command of a thread behind so many of its commands.
+    pub fn get(&self, thread: u32, index: usize) -> Option<Command>
+        requires least { 1 ≤ thread }
+        requires most { thread ≤ length self.now }
+        ensures { result ≡ slice_get (commands_at self.now thread) index }
+    {
+        self.lists[thread as usize - 1].get(index).copied()
+    }
+
+    /// How many commands a thread has.
+    pub fn count(&self, thread: u32) -> usize
+        requires least { 1 ≤ thread }
+        requires most { thread ≤ length self.now }
+        ensures { result ≡ length (commands_at self.now thread) }
+    {
+        self.lists[thread as usize - 1].len()
+    }
+
+    /// How many commands the threads before this one have.
+    pub fn before(&self, thread: u32) -> usize
+        requires least { 1 ≤ thread }
+        requires most { thread ≤ length self.now }
+        ensures { result ≡ commands_before self.now thread }
+    {
+        count_all(&self.lists[..thread as usize - 1])
+    }
+
+    /// How many commands all threads have.
+    pub fn total(&self) -> usize
+        ensures { result ≡ total_of self.now }
+    {
+        count_all(&self.lists)
     }
 }

@@ -1,4 +1,5 @@
-//! Scripts: a heap line, and the commands of threads, read and printed; and the answers to the commands.
+//! Scripts: a heap line, and the commands of threads, read and printed; the commands by thread; and what there is to
+//! tell of a script that is played: its answers, its ended calls, and the tries that were refused.
 //!
 //! A line ends at LF or at the input's end; one CR before LF is dropped. Words stand between spaces. A
 //! line without words, or whose first word begins with `;`, is passed over. The first other line is
@@ -20,6 +21,7 @@
 #![tactic(auto)]
 
 mod answer;
+mod command_lines;
 mod commands;
 mod fault;
 mod heading;
@@ -27,14 +29,17 @@ mod places;
 mod printing;
 mod reading;
 mod script;
+mod told;
 mod words;
 
 pub use answer::{Answer, Answers};
+pub use commands::Commands;
 pub use fault::{FaultKind, ReadScriptFault};
 pub use heap_history::OutOfMemory;
 pub use printing::print_script;
 pub use reading::read_script;
 pub use script::{Command, Line, Script};
+pub use told::{Again, Refusal, Told};
 pub use words::number;
 
 #[cfg(test)]

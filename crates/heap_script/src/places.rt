@@ -1,6 +1,7 @@
 //! The places of a line: the words that are due, and what each must be.
 
-ghost use Rattle.std.specs.Prelude.{◌≡◌, ◌≤◌, ◌<◌, ◌^◌, ◌+◌, List, length, IfOk};
+ghost use Rattle.std.specs.Prelude.{◌≡◌, ◌≤◌, ◌<◌, ◌^◌, ◌+◌, ◌-◌, List, length, IfOk};
+ghost use Rattle.heap_words.specs.declared.limits.TheConstants.{MOST_FIELDS, REGISTERS};
 ghost use Rattle.heap_script.specs.Words.{words};
 ghost use Rattle.heap_script.specs.Scripts.{OperandFits};
 ghost use Rattle.heap_script.specs.Gives.{Gives};
@@ -8,7 +9,7 @@ ghost use Rattle.heap_script.specs.Grammar.{due as due_of, ended as ended_of, nu
 
 use crate::fault::FaultKind;
 use crate::words::{cut, first_byte, next_word, number};
-use heap_words::Operand;
+use heap_words::{MOST_FIELDS, NUMBER_LIMIT, Operand};
 
 /// A word that is due, and the bytes after it.
 pub(crate) fn due(line: &[u8]) -> Result<(&[u8], &[u8]), FaultKind>
@@ -51,7 +52,7 @@ pub(crate) fn number_in(
 #[tactic(auto, unfolding(crate::specs::Grammar::register))]
 pub(crate) fn register(word: &[u8]) -> Result<u32, FaultKind>
     ensures exact { Gives (λ x. x) result (register_of word.now) }
-    ensures fits { IfOk result (λ r. r < 8) }
+    ensures fits { IfOk result (λ r. r < REGISTERS) }
 {
     if word.len() == 1 && b'a' <= word[0] && word[0] <= b'h' {
         Ok(u32::from(word[0] - b'a'))
@@ -64,13 +65,13 @@ pub(crate) fn register(word: &[u8]) -> Result<u32, FaultKind>
 #[tactic(auto, unfolding(crate::specs::Grammar::place))]
 pub(crate) fn place(word: &[u8]) -> Result<(u32, u32), FaultKind>
     ensures exact { Gives (λ x. x) result (place_of word.now) }
-    ensures fits { IfOk result (λ p. (p.0 < 8) × (p.1 ≤ 29)) }
+    ensures fits { IfOk result (λ p. (p.0 < REGISTERS) × (p.1 ≤ MOST_FIELDS - 1)) }
 {
     match cut(word, b'.') {
         None => Err(FaultKind::BadWord),
         Some((obj, field)) => {
             let obj = register(obj)?;
-            let field = number_in(0, 29, FaultKind::BadNumber, field)?;
+            let field = number_in(0, u64::from(MOST_FIELDS - 1), FaultKind::BadNumber, field)?;
             Ok((obj, field as u32))
         }
     }
@@ -83,7 +84,7 @@ pub(crate) fn operand(word: &[u8]) -> Result<Operand, FaultKind>
     ensures fits { IfOk result OperandFits }
 {
     if first_byte(word).is_ascii_digit() {
-        let n = number_in(0, (1 << 48) - 1, FaultKind::BadNumber, word)?;
+        let n = number_in(0, NUMBER_LIMIT - 1, FaultKind::BadNumber, word)?;
         Ok(Operand::Num(n))
     } else {
         let r = register(word)?;

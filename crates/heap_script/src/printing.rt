@@ -1,6 +1,7 @@
 //! Printing a script.
 
 ghost use Rattle.std.specs.Prelude.{◌≡◌, ◌<◌, ◌++◌, ◌∷◌, [], ◌+◌, List, IfOk, OnOk, Ok, decimal};
+ghost use Rattle.heap_words.specs.declared.limits.TheConstants.{REGISTERS};
 ghost use Rattle.std.specs.List.{flat_map};
 ghost use Rattle.heap_script.specs.Scripts.{OperandFits, CommandFits, Fits};
 ghost use Rattle.heap_script.specs.Grammar.{script_of};
@@ -21,7 +22,7 @@ fn push_number(out: &mut Vec<u8>, n: u64) -> Result<(), AllocError>
 }
 
 fn push_letter(out: &mut Vec<u8>, r: u32) -> Result<(), AllocError>
-    requires { r < 8 }
+    requires { r < REGISTERS }
     ensures { OnOk result (out.new.items ≡ out.old.items ++ letter r) }
 {
     out.push(b'a' + r as u8)?;
@@ -39,7 +40,7 @@ fn push_operand(out: &mut Vec<u8>, what: Operand) -> Result<(), AllocError>
 }
 
 fn push_place(out: &mut Vec<u8>, obj: u32, field: u32) -> Result<(), AllocError>
-    requires { obj < 8 }
+    requires { obj < REGISTERS }
     ensures { OnOk result (out.new.items ≡ out.old.items ++ place_word obj field) }
 {
     push_letter(out, obj)?;

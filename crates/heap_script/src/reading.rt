@@ -9,7 +9,7 @@ ghost use Rattle.heap_script.specs.Grammar.{Fault, commands_from, script_from, s
 ghost use Rattle.heap_script.specs.FirstFault.{IsScript, IsFault};
 ghost use Rattle.heap_script.specs.Text.{text_of};
 
-use crate::commands::command_line;
+use crate::command_lines::command_line;
 use crate::fault::{FaultKind, ReadScriptFault};
 use crate::heading::heap_line;
 use crate::script::{Line, Script};
