@@ -1,11 +1,12 @@
 -- Why the making of an object ends as it does, whatever others do meanwhile.
-use Rattle.std.specs.Prelude.{◌≡◌, ◌≢◌, ℕ, ◌+◌, ◌<◌, ◌≤◌, ◌==◌, Bool, true, false, List, [], ◌∷◌, Option, Some, None, refl, if◌then◌else◌}
+use Rattle.std.specs.Prelude.{◌≡◌, ◌≢◌, ℕ, ◌+◌, ◌<◌, ◌≤◌, ◌==◌, Bool, true, false, List, [], ◌∷◌, Option, Some, None, refl, if◌then◌else◌, ◌⊎◌}
 use Rattle.std.specs.Option.{ForSome}
 use Rattle.std.proofs.Common.{sym, subst, ap, arith, ◌∙◌, inl, inr}
 use Rattle.std.proofs.lemmas.Bool.{eqb-true, eqb-false, leb-false}
 use Rattle.call_steps.specs.declared.step.Step.TheVariants.{Store}
 use Rattle.heap_words.specs.Layouts.{Sizes, IsLayout, IsPass, regions_of, region_at, first_word}
 use Rattle.heap_words.specs.PlaceLaws.{regions_of-bound}
+use Rattle.heap_words.specs.declared.limits.TheConstants.{BIRTHS_OF_PASS, MOST_REGIONS, REGION_WORDS}
 use Rattle.heap_words.specs.Packing.{fits_behind}
 use Rattle.object_headers.specs.Headers.{word_of_header}
 use Rattle.handshakes.specs.declared.pass_view.PassView.{PassView}
@@ -40,18 +41,18 @@ Stored m found at put = Took asks_of fed_of (λ step word. step ≡ Store at put
 -- an object of this len does not fit behind the used words of the region, or there is none
 abbrev pub NeedsRegion : Option ℕ → ℕ → ℕ → Type 0
 NeedsRegion None used len = Unit {0}
-NeedsRegion (Some region) used len = 64 < used + len + 1
+NeedsRegion (Some region) used len = REGION_WORDS < used + len + 1
 
--- the words of the object are the last used ones of the region, which is one of the pass's own
-abbrev pub EndsRegion : Sizes → ℕ → ℕ → ℕ → Option ℕ → ℕ → Type 0
-EndsRegion l pass at len None used = ⊥
-EndsRegion l pass at len (Some region) used = IsOwn l pass region × (at + len + 1 ≡ first_word l region + used)
+-- the words of the object are the last used ones of the region, which is the one that the pass had, or one of the pass's own
+abbrev pub EndsRegion : Sizes → ℕ → Option ℕ → ℕ → ℕ → Option ℕ → ℕ → Type 0
+EndsRegion l pass had at len None used = ⊥
+EndsRegion l pass had at len (Some region) used = ((had ≡ Some region) ⊎ IsOwn l pass region) × (at + len + 1 ≡ first_word l region + used)
 
 -- what it says that an object was made: it has the next birth number, its header was stored where it stands, and there it is the last one of the region
-pub record IsMade (l : Sizes) (pass made len : ℕ) (m : NewMachine) (found : List ℕ) (birth at : ℕ) (next : Room) : Type 0 where
+pub record IsMade (l : Sizes) (pass : ℕ) (had : Option ℕ) (made len : ℕ) (m : NewMachine) (found : List ℕ) (birth at : ℕ) (next : Room) : Type 0 where
   pub next_birth : birth ≡ next_birth pass made
   pub stored : Stored m found at (word_of_header (new_header len birth))
-  pub last : EndsRegion l pass at len next.region next.used
+  pub last : EndsRegion l pass had at len next.region next.used
 
 -- what it says that no region was free: the object needs one, and each of the pass's own, so many as the quota, was found in use
 pub record IsSpent (l : Sizes) (pass : ℕ) (room : Room) (len : ℕ) (m : NewMachine) (found : List ℕ) (regions : ℕ) : Type 0 where
@@ -61,14 +62,14 @@ pub record IsSpent (l : Sizes) (pass : ℕ) (room : Room) (len : ℕ) (m : NewMa
 
 -- what the end says of the words that the steps found
 abbrev pub MakesFor : Sizes → ℕ → Room → ℕ → ℕ → NewMachine → List ℕ → NewEnd → Type 0
-MakesFor l pass room made len m found (Made birth at next) = IsMade l pass made len m found birth at next
+MakesFor l pass room made len m found (Made birth at next) = IsMade l pass room.region made len m found birth at next
 MakesFor l pass room made len m found (Refused (QuotaSpent regions)) = IsSpent l pass room len m found regions
-MakesFor l pass room made len m found (Refused BirthsSpent) = made ≡ 262144
+MakesFor l pass room made len m found (Refused BirthsSpent) = made ≡ BIRTHS_OF_PASS
 
 -- whatever words its steps find, its end says why, and without a birth number it has ended at once
 pub record MakesWithCause (l : Sizes) (pass : ℕ) (room : Room) (made len : ℕ) (m : NewMachine) : Type 0 where
   pub cause : (found : List ℕ) → ForSome (end_of (after fed_of m found)) (MakesFor l pass room made len m found)
-  pub at_once : made ≡ 262144 → end_of m ≡ Some (Refused BirthsSpent)
+  pub at_once : made ≡ BIRTHS_OF_PASS → end_of m ≡ Some (Refused BirthsSpent)
 
 stays_ended : (end : NewEnd) (found : List ℕ) → after fed_of (make.Ended end) found ≡ make.Ended end
 stays_ended end [] = refl
@@ -158,22 +159,22 @@ own_below : (l : Sizes) (pass region : ℕ) → IsLayout l → IsPass l pass →
 own_below l pass region fits is own = grind arith
 
 -- an object at the start of an own region
-ends_claimed : (l : Sizes) (pass made len region : ℕ) (old : Option ℕ) → IsLayout l → IsPass l pass → IsOwn l pass region → EndsRegion l pass (placed_in (plan_of l pass made len old) region).at len (Some region) (len + 1)
+ends_claimed : (l : Sizes) (pass made len region : ℕ) (old : Option ℕ) → IsLayout l → IsPass l pass → IsOwn l pass region → EndsRegion l pass old (placed_in (plan_of l pass made len old) region).at len (Some region) (len + 1)
 ends_claimed l pass made len region old fits is own =
-    let few : regions_of l ≤ 2560 = regions_of-bound l fits in
+    let few : regions_of l ≤ MOST_REGIONS = regions_of-bound l fits in
     let below : region < regions_of l = own_below l pass region fits is own in
-    (own, omega arith)
+    (inr own, omega arith)
 
-claimed_makes : (l : Sizes) (pass : ℕ) (room : Room) (made len : ℕ) → IsLayout l → IsPass l pass → ForSome room.last (IsOwn l pass) → NeedsRegion room.region room.used len → (found : List ℕ) (end : NewEnd) → ClaimsFor (plan_of l pass made len room.region) (claim.Look (claims.round_of l pass room.last)) found end → MakesFor l pass room made len (claims_for l pass room made len) found end
-claimed_makes l pass room made len fits pass_is last needs found (Made birth at next) is =
-    let cause = ends_with_cause l pass room.last fits last in
+claimed_makes : (l : Sizes) (pass : ℕ) (room : Room) (made len : ℕ) → IsLayout l → IsPass l pass → NeedsRegion room.region room.used len → (found : List ℕ) (end : NewEnd) → ClaimsFor (plan_of l pass made len room.region) (claim.Look (claims.round_of l pass room.last)) found end → MakesFor l pass room made len (claims_for l pass room made len) found end
+claimed_makes l pass room made len fits pass_is needs found (Made birth at next) is =
+    let cause = ends_with_cause l pass room.last fits in
     let own = (cause.claimed found is.region is.claims).0 in
     let plan : NewPlan = plan_of l pass made len room.region in
     let made_is : made_by (placed_in plan is.region) ≡ Made birth at next = is.made in
     let Holds : NewEnd → Type 0 = MakesFor l pass room made len (claims_for l pass room made len) found in
     subst Holds made_is (record { next_birth = refl; stored = is.stored; last = ends_claimed l pass made len is.region room.region fits pass_is own })
-claimed_makes l pass room made len fits pass_is last needs found (Refused (QuotaSpent regions)) is =
-    let cause = ends_with_cause l pass room.last fits last in
+claimed_makes l pass room made len fits pass_is needs found (Refused (QuotaSpent regions)) is =
+    let cause = ends_with_cause l pass room.last fits in
     let none = cause.none_free found regions is in
     let plan : NewPlan = plan_of l pass made len room.region in
     record {
@@ -181,43 +182,43 @@ claimed_makes l pass room made len fits pass_is last needs found (Refused (Quota
       quota = none.0;
       in_use = λ region own. found_by_claim plan (claim.Look (claims.round_of l pass room.last)) found (region_at l region) (none.1 region own);
     }
-claimed_makes l pass room made len fits pass_is last needs found (Refused BirthsSpent) is = absurd is
+claimed_makes l pass room made len fits pass_is needs found (Refused BirthsSpent) is = absurd is
 
 -- the placement of an object that fits its region
 abbrev pub fitted : Sizes → ℕ → Room → ℕ → ℕ → ℕ → Placement
 fitted l pass room made len region = placed (next_birth pass made) len region (first_word l region) room.used room.last
 
-fitted_makes : (l : Sizes) (pass : ℕ) (room : Room) (made len region : ℕ) → IsOwn l pass region → (found : List ℕ) (end : NewEnd) → StoresHeader (fitted l pass room made len region) (make.Header (fitted l pass room made len region)) found end → MakesFor l pass room made len (make.Header (fitted l pass room made len region)) found end
-fitted_makes l pass room made len region own found end is =
+fitted_makes : (l : Sizes) (pass : ℕ) (room : Room) (made len region : ℕ) → room.region ≡ Some region → (found : List ℕ) (end : NewEnd) → StoresHeader (fitted l pass room made len region) (make.Header (fitted l pass room made len region)) found end → MakesFor l pass room made len (make.Header (fitted l pass room made len region)) found end
+fitted_makes l pass room made len region had found end is =
     let m : NewMachine = make.Header (fitted l pass room made len region) in
-    subst (MakesFor l pass room made len m found) is.made (record { next_birth = refl; stored = is.stored; last = (own, omega arith) })
+    subst (MakesFor l pass room made len m found) is.made (record { next_birth = refl; stored = is.stored; last = (inl had, omega arith) })
 
 needs_region : (o : Option ℕ) (used len : ℕ) → fits_behind used len ≡ false → NeedsRegion o used len
 needs_region None used len e = tt
-needs_region (Some region) used len e = leb-false (used + len + 1) 64 e
+needs_region (Some region) used len e = leb-false (used + len + 1) REGION_WORDS e
 
-claims_cause : (l : Sizes) (pass : ℕ) (room : Room) (made len : ℕ) → IsLayout l → IsPass l pass → ForSome room.last (IsOwn l pass) → NeedsRegion room.region room.used len → made ≢ 262144 → MakesWithCause l pass room made len (claims_for l pass room made len)
-claims_cause l pass room made len fits pass_is last needs more = record {
-  cause = λ found end is. claimed_makes l pass room made len fits pass_is last needs found end (claimed_ends (plan_of l pass made len room.region) (claim.Look (claims.round_of l pass room.last)) found end is);
+claims_cause : (l : Sizes) (pass : ℕ) (room : Room) (made len : ℕ) → IsLayout l → IsPass l pass → NeedsRegion room.region room.used len → made ≢ BIRTHS_OF_PASS → MakesWithCause l pass room made len (claims_for l pass room made len)
+claims_cause l pass room made len fits pass_is needs more = record {
+  cause = λ found end is. claimed_makes l pass room made len fits pass_is needs found end (claimed_ends (plan_of l pass made len room.region) (claim.Look (claims.round_of l pass room.last)) found end is);
   at_once = λ spent. absurd (more spent);
 }
 
-fit_cause : (l : Sizes) (pass : ℕ) (room : Room) (made len : ℕ) (o : Option ℕ) (b : Bool) → IsLayout l → IsPass l pass → ForSome room.last (IsOwn l pass) → made ≢ 262144 → ForSome o (IsOwn l pass) → room.region ≡ o → fits_behind room.used len ≡ b → MakesWithCause l pass room made len (by_fit l pass room made len o b)
-fit_cause l pass room made len None b fits pass_is last more own e f = claims_cause l pass room made len fits pass_is last (subst (λ (o : Option ℕ). NeedsRegion o room.used len) (sym e) tt) more
-fit_cause l pass room made len (Some region) false fits pass_is last more own e f = claims_cause l pass room made len fits pass_is last (needs_region room.region room.used len f) more
-fit_cause l pass room made len (Some region) true fits pass_is last more own e f = record {
-  cause = λ found end is. fitted_makes l pass room made len region (own region refl) found end (header_ends (fitted l pass room made len region) found end is);
+fit_cause : (l : Sizes) (pass : ℕ) (room : Room) (made len : ℕ) (o : Option ℕ) (b : Bool) → IsLayout l → IsPass l pass → made ≢ BIRTHS_OF_PASS → room.region ≡ o → fits_behind room.used len ≡ b → MakesWithCause l pass room made len (by_fit l pass room made len o b)
+fit_cause l pass room made len None b fits pass_is more e f = claims_cause l pass room made len fits pass_is (subst (λ (o : Option ℕ). NeedsRegion o room.used len) (sym e) tt) more
+fit_cause l pass room made len (Some region) false fits pass_is more e f = claims_cause l pass room made len fits pass_is (needs_region room.region room.used len f) more
+fit_cause l pass room made len (Some region) true fits pass_is more e f = record {
+  cause = λ found end is. fitted_makes l pass room made len region e found end (header_ends (fitted l pass room made len region) found end is);
   at_once = λ spent. absurd (more spent);
 }
 
-spent_cause : (l : Sizes) (view : PassView) (room : Room) (made len : ℕ) (b : Bool) → (made == 262144) ≡ b → (made ≢ 262144 → MakesWithCause l view.pass room made len (by_fit l view.pass room made len room.region (fits_behind room.used len))) → MakesWithCause l view.pass room made len (if b then make.Ended (Refused BirthsSpent) else by_fit l view.pass room made len room.region (fits_behind room.used len))
+spent_cause : (l : Sizes) (view : PassView) (room : Room) (made len : ℕ) (b : Bool) → (made == BIRTHS_OF_PASS) ≡ b → (made ≢ BIRTHS_OF_PASS → MakesWithCause l view.pass room made len (by_fit l view.pass room made len room.region (fits_behind room.used len))) → MakesWithCause l view.pass room made len (if b then make.Ended (Refused BirthsSpent) else by_fit l view.pass room made len room.region (fits_behind room.used len))
 spent_cause l view room made len true e go = record {
-  cause = λ found end is. subst (MakesFor l view.pass room made len (make.Ended (Refused BirthsSpent)) found) (ended_is (Refused BirthsSpent) end found is) (eqb-true made 262144 e);
+  cause = λ found end is. subst (MakesFor l view.pass room made len (make.Ended (Refused BirthsSpent)) found) (ended_is (Refused BirthsSpent) end found is) (eqb-true made BIRTHS_OF_PASS e);
   at_once = λ spent. refl;
 }
-spent_cause l view room made len false e go = go (eqb-false made 262144 e)
+spent_cause l view room made len false e go = go (eqb-false made BIRTHS_OF_PASS e)
 
 -- the making of an object ends only so
-pub new_cause_of : (l : Sizes) (view : PassView) (room : Room) (made len : ℕ) → IsLayout l → IsPass l view.pass → ForSome room.region (IsOwn l view.pass) → ForSome room.last (IsOwn l view.pass) → MakesWithCause l view.pass room made len (new_of l view room made len)
-new_cause_of l view room made len fits pass_is region last =
-    spent_cause l view room made len (made == 262144) refl (λ more. fit_cause l view.pass room made len room.region (fits_behind room.used len) fits pass_is last more region refl refl)
+pub new_cause_of : (l : Sizes) (view : PassView) (room : Room) (made len : ℕ) → IsLayout l → IsPass l view.pass → MakesWithCause l view.pass room made len (new_of l view room made len)
+new_cause_of l view room made len fits pass_is =
+    spent_cause l view room made len (made == BIRTHS_OF_PASS) refl (λ more. fit_cause l view.pass room made len room.region (fits_behind room.used len) fits pass_is more refl refl)

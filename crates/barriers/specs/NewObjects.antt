@@ -5,6 +5,8 @@ use Rattle.call_steps.specs.declared.step.Step.{Step}
 use Rattle.call_steps.specs.declared.step.Step.TheVariants.{Store, Ended}
 use Rattle.heap_words.specs.Layouts.{Sizes, IsLayout, IsRegion, regions_of, region_at, first_word}
 use Rattle.heap_words.specs.PlaceLaws.{regions_of-bound}
+use Rattle.heap_words.specs.declared.limits.TheConstants.{BIRTHS_BETWEEN_PASSES, BIRTHS_OF_PASS, MOST_REGIONS, REGION_WORDS}
+use Rattle.barriers.specs.declared.new_object.TheConstants.{LAST_REGION}
 use Rattle.heap_words.specs.Packing.{fits_behind}
 use Rattle.object_headers.specs.declared.header.Header.{Header}
 use Rattle.object_headers.specs.declared.header.State.TheVariants.{Plain}
@@ -28,7 +30,7 @@ use Rattle.barriers.specs.declared.new_object.NewMachine.TheVariants as make
 
 -- the birth number of a pass's next object, of which it has made so many
 abbrev pub next_birth : ℕ → ℕ → ℕ
-next_birth pass made = pass * 524288 + made + 1
+next_birth pass made = pass * BIRTHS_BETWEEN_PASSES + made + 1
 
 -- the header of a new object
 abbrev pub new_header : ℕ → ℕ → Header
@@ -67,10 +69,10 @@ abbrev pub by_fit : Sizes → ℕ → Room → ℕ → ℕ → Option ℕ → Bo
 by_fit l pass room made len (Some region) true = make.Header (placed (next_birth pass made) len region (first_word l region) room.used room.last)
 by_fit l pass room made len _ _ = claims_for l pass room made len
 
--- no birth number is left behind the 262,144th object
+-- no birth number is left after the last object that a pass makes
 abbrev pub new_of : Sizes → PassView → Room → ℕ → ℕ → NewMachine
 new_of l view room made len =
-    if made == 262144
+    if made == BIRTHS_OF_PASS
     then make.Ended (Refused BirthsSpent)
     else by_fit l view.pass room made len room.region (fits_behind room.used len)
 
@@ -82,11 +84,11 @@ asks_of (make.Fill at placement) = Store at (word_of_region Filled)
 asks_of (make.Header placement) = Store placement.at placement.header
 asks_of (make.Ended end) = Ended
 
--- the object at the start of a claimed region; no table has a region past 2,559
+-- the object at the start of a claimed region; no table has a region past the last
 abbrev pub placed_in : NewPlan → ℕ → Placement
 placed_in plan region = record {
   birth = plan.birth;
-  at = plan.regions_at + 64 * min region 2559;
+  at = plan.regions_at + REGION_WORDS * min region LAST_REGION;
   header = plan.header;
   room = record { region = Some region; used = plan.words; last = Some region };
 }
@@ -106,8 +108,8 @@ claimed plan (claim.Ended (claim_end.NoneFree regions)) = make.Ended (Refused (Q
 -- in a claimed region the object stands as anywhere in a region: at its first word
 pub placed_in-plan_of : (l : Sizes) (pass made len region : ℕ) (old : Option ℕ) → IsLayout l → IsRegion l region → placed_in (plan_of l pass made len old) region ≡ placed (next_birth pass made) len region (first_word l region) 0 (Some region)
 placed_in-plan_of l pass made len region old fits is =
-    let few : regions_of l ≤ 2560 = regions_of-bound l fits in
-    let at : first_word l 0 + 64 * min region 2559 ≡ first_word l region + 0 = omega arith in
+    let few : regions_of l ≤ MOST_REGIONS = regions_of-bound l fits in
+    let at : first_word l 0 + REGION_WORDS * min region LAST_REGION ≡ first_word l region + 0 = omega arith in
     let words : len + 1 ≡ 0 + len + 1 = omega arith in
     rw (at, words) refl
 

@@ -1,68 +1,113 @@
 -- The machine that a pass is in.
-use Rattle.std.specs.Prelude.{◌≡◌, ℕ, Bool, false, is_some, refl}
+use Rattle.std.specs.Prelude.{◌≡◌, ◌≢◌, ℕ, ◌<◌, refl}
 use Rattle.std.proofs.Common.{ap}
 use Rattle.call_steps.specs.declared.step.Step.{Step}
 use Rattle.call_steps.specs.declared.step.Step.TheVariants.{Store, Ended}
 use Rattle.handshakes.specs.Polls as polls
 use Rattle.handshakes.specs.Retires as retires
 use Rattle.barriers.specs.NewObjects as makes
-use Rattle.barriers.specs.Reads as reads
-use Rattle.barriers.specs.Writes as writes
-use Rattle.barriers.specs.Exchanges as exchanges
-use Rattle.barriers.specs.ReadMeanings as read_meanings
-use Rattle.barriers.specs.WriteMeanings as write_meanings
-use Rattle.barriers.specs.ExchangeMeanings as exchange_meanings
-use Rattle.barriers.specs.declared.read.ReadMachine.{ReadMachine}
-use Rattle.barriers.specs.declared.write.WriteMachine.{WriteMachine}
-use Rattle.barriers.specs.declared.exchange.ExchangeMachine.{ExchangeMachine}
+use Rattle.barriers.specs.declared.front.Front.{Front}
+use Rattle.barriers.specs.declared.front.Front.TheVariants.{Stays}
 use Rattle.barriers.specs.declared.pass.PassMachine.{PassMachine}
 use Rattle.barriers.specs.declared.pass.PassMachine.TheVariants as machine
 
 -- its next step
-abbrev pub asks_of : PassMachine → Step
-asks_of machine.Idle = Ended
-asks_of (machine.Poll m) = polls.asks_of m
-asks_of (machine.New m) = makes.asks_of m
-asks_of (machine.Read m) = reads.asks_of m
-asks_of (machine.Write m) = writes.asks_of m
-asks_of (machine.Exchange m) = exchanges.asks_of m
-asks_of (machine.Retire m) = retires.asks_of m
+abbrev pub asks_of : {R W E : Type 0} → (R → Step) → (W → Step) → (E → Step) → PassMachine R W E → Step
+asks_of r w e (machine.Poll m) = polls.asks_of m
+asks_of r w e (machine.New m) = makes.asks_of m
+asks_of r w e (machine.Read m) = r m
+asks_of r w e (machine.Write m) = w m
+asks_of r w e (machine.Exchange m) = e m
+asks_of r w e (machine.Retire m) = retires.asks_of m
+asks_of r w e machine.Idle = Ended
+asks_of r w e machine.Retired = Ended
 
 -- it, fed with a word
-abbrev pub fed_of : PassMachine → ℕ → PassMachine
-fed_of machine.Idle found = machine.Idle
-fed_of (machine.Poll m) found = machine.Poll (polls.fed_of m found)
-fed_of (machine.New m) found = machine.New (makes.fed_of m found)
-fed_of (machine.Read m) found = machine.Read (reads.fed_of m found)
-fed_of (machine.Write m) found = machine.Write (writes.fed_of m found)
-fed_of (machine.Exchange m) found = machine.Exchange (exchanges.fed_of m found)
-fed_of (machine.Retire m) found = machine.Retire (retires.fed_of m found)
+abbrev pub fed_of : {R W E : Type 0} → (R → ℕ → R) → (W → ℕ → W) → (E → ℕ → E) → PassMachine R W E → ℕ → PassMachine R W E
+fed_of r w e (machine.Poll m) found = machine.Poll (polls.fed_of m found)
+fed_of r w e (machine.New m) found = machine.New (makes.fed_of m found)
+fed_of r w e (machine.Read m) found = machine.Read (r m found)
+fed_of r w e (machine.Write m) found = machine.Write (w m found)
+fed_of r w e (machine.Exchange m) found = machine.Exchange (e m found)
+fed_of r w e (machine.Retire m) found = machine.Retire (retires.fed_of m found)
+fed_of r w e machine.Idle found = machine.Idle
+fed_of r w e machine.Retired found = machine.Retired
 
--- whether its step, where it finds this word, sees the value of a field
-abbrev pub sees : PassMachine → ℕ → Bool
-sees machine.Idle found = false
-sees (machine.Poll m) found = false
-sees (machine.New m) found = false
-sees (machine.Read m) found = reads.sees m found
-sees (machine.Write m) found = false
-sees (machine.Exchange m) found = exchanges.sees m found
-sees (machine.Retire m) found = false
+-- how many steps are left at most
+abbrev pub left_of : {R W E : Type 0} → (R → ℕ) → (W → ℕ) → (E → ℕ) → PassMachine R W E → ℕ
+left_of r w e (machine.Poll m) = polls.left_of m
+left_of r w e (machine.New m) = makes.left_of m
+left_of r w e (machine.Read m) = r m
+left_of r w e (machine.Write m) = w m
+left_of r w e (machine.Exchange m) = e m
+left_of r w e (machine.Retire m) = retires.left_of m
+left_of r w e machine.Idle = 0
+left_of r w e machine.Retired = 0
 
--- it does where the call's step is a look
-pub sees-read : (m : ReadMachine) (found : ℕ) → sees (machine.Read m) found ≡ is_some (read_meanings.meaning.looks m found)
-sees-read m found = read_meanings.sees_where_it_looks m found
+-- what its step makes of the changes that the pass has seen, where it finds this word and changes nothing: only accesses look
+abbrev pub front_of : {R W E : Type 0} → (R → ℕ → Front) → (W → ℕ → Front) → (E → ℕ → Front) → PassMachine R W E → ℕ → Front
+front_of r w e (machine.Read m) found = r m found
+front_of r w e (machine.Write m) found = w m found
+front_of r w e (machine.Exchange m) found = e m found
+front_of r w e m found = Stays
 
-pub sees-write : (m : WriteMachine) (found : ℕ) → sees (machine.Write m) found ≡ is_some (write_meanings.meaning.looks m found)
-sees-write m found = refl
+-- ---- the laws of machines
 
-pub sees-exchange : (m : ExchangeMachine) (found : ℕ) → sees (machine.Exchange m) found ≡ is_some (exchange_meanings.meaning.looks m found)
-sees-exchange m found = exchange_meanings.sees_where_it_looks m found
+-- after a store it goes on alike for every word
+abbrev pub IsBlind : {M : Type 0} → (M → Step) → (M → ℕ → M) → Type 0
+IsBlind {M} asks fed = (m : M) (at put n : ℕ) → asks m ≡ Store at put → fed m n ≡ fed m 0
 
-pub blind_of : (m : PassMachine) (at put n : ℕ) → asks_of m ≡ Store at put → fed_of m n ≡ fed_of m 0
-blind_of machine.Idle at put n e = refl
-blind_of (machine.Poll m) at put n e = ap (λ x. machine.Poll x) (polls.blind_of m at put n e)
-blind_of (machine.New m) at put n e = ap (λ x. machine.New x) (makes.blind_of m at put n e)
-blind_of (machine.Read m) at put n e = ap (λ x. machine.Read x) (reads.blind_of m at put n e)
-blind_of (machine.Write m) at put n e = ap (λ x. machine.Write x) (writes.blind_of m at put n e)
-blind_of (machine.Exchange m) at put n e = ap (λ x. machine.Exchange x) (exchanges.blind_of m at put n e)
-blind_of (machine.Retire m) at put n e = ap (λ x. machine.Retire x) (retires.blind_of m at put n e)
+-- where it has ended no step is left, and it has ended where none is
+abbrev pub HasNoneLeft : {M : Type 0} → (M → Step) → (M → ℕ) → Type 0
+HasNoneLeft {M} asks left = (m : M) → asks m ≡ Ended → left m ≡ 0
+
+abbrev pub HasSomeLeft : {M : Type 0} → (M → Step) → (M → ℕ) → Type 0
+HasSomeLeft {M} asks left = (m : M) → left m ≡ 0 → asks m ≡ Ended
+
+-- each word that it is fed lowers the bound
+abbrev pub Falls : {M : Type 0} → (M → Step) → (M → ℕ → M) → (M → ℕ) → Type 0
+Falls {M} asks fed left = (m : M) (n : ℕ) → asks m ≢ Ended → left (fed m n) < left m
+
+pub blind_of : {R W E : Type 0} (ar : R → Step) (aw : W → Step) (ae : E → Step) (fr : R → ℕ → R) (fw : W → ℕ → W) (fe : E → ℕ → E)
+    → IsBlind ar fr → IsBlind aw fw → IsBlind ae fe → IsBlind (asks_of ar aw ae) (fed_of fr fw fe)
+blind_of ar aw ae fr fw fe r w e (machine.Poll m) at put n is = ap (λ x. machine.Poll x) (polls.blind_of m at put n is)
+blind_of ar aw ae fr fw fe r w e (machine.New m) at put n is = ap (λ x. machine.New x) (makes.blind_of m at put n is)
+blind_of ar aw ae fr fw fe r w e (machine.Read m) at put n is = ap (λ x. machine.Read x) (r m at put n is)
+blind_of ar aw ae fr fw fe r w e (machine.Write m) at put n is = ap (λ x. machine.Write x) (w m at put n is)
+blind_of ar aw ae fr fw fe r w e (machine.Exchange m) at put n is = ap (λ x. machine.Exchange x) (e m at put n is)
+blind_of ar aw ae fr fw fe r w e (machine.Retire m) at put n is = ap (λ x. machine.Retire x) (retires.blind_of m at put n is)
+blind_of ar aw ae fr fw fe r w e machine.Idle at put n is = refl
+blind_of ar aw ae fr fw fe r w e machine.Retired at put n is = refl
+
+pub none_left_of : {R W E : Type 0} (ar : R → Step) (aw : W → Step) (ae : E → Step) (lr : R → ℕ) (lw : W → ℕ) (le : E → ℕ)
+    → HasNoneLeft ar lr → HasNoneLeft aw lw → HasNoneLeft ae le → HasNoneLeft (asks_of ar aw ae) (left_of lr lw le)
+none_left_of ar aw ae lr lw le r w e (machine.Poll m) is = polls.none_left_of m is
+none_left_of ar aw ae lr lw le r w e (machine.New m) is = makes.none_left_of m is
+none_left_of ar aw ae lr lw le r w e (machine.Read m) is = r m is
+none_left_of ar aw ae lr lw le r w e (machine.Write m) is = w m is
+none_left_of ar aw ae lr lw le r w e (machine.Exchange m) is = e m is
+none_left_of ar aw ae lr lw le r w e (machine.Retire m) is = retires.none_left_of m is
+none_left_of ar aw ae lr lw le r w e machine.Idle is = refl
+none_left_of ar aw ae lr lw le r w e machine.Retired is = refl
+
+pub some_left_of : {R W E : Type 0} (ar : R → Step) (aw : W → Step) (ae : E → Step) (lr : R → ℕ) (lw : W → ℕ) (le : E → ℕ)
+    → HasSomeLeft ar lr → HasSomeLeft aw lw → HasSomeLeft ae le → HasSomeLeft (asks_of ar aw ae) (left_of lr lw le)
+some_left_of ar aw ae lr lw le r w e (machine.Poll m) is = polls.some_left_of m is
+some_left_of ar aw ae lr lw le r w e (machine.New m) is = makes.some_left_of m is
+some_left_of ar aw ae lr lw le r w e (machine.Read m) is = r m is
+some_left_of ar aw ae lr lw le r w e (machine.Write m) is = w m is
+some_left_of ar aw ae lr lw le r w e (machine.Exchange m) is = e m is
+some_left_of ar aw ae lr lw le r w e (machine.Retire m) is = retires.some_left_of m is
+some_left_of ar aw ae lr lw le r w e machine.Idle is = refl
+some_left_of ar aw ae lr lw le r w e machine.Retired is = refl
+
+pub falls_of : {R W E : Type 0} (ar : R → Step) (aw : W → Step) (ae : E → Step) (fr : R → ℕ → R) (fw : W → ℕ → W) (fe : E → ℕ → E) (lr : R → ℕ) (lw : W → ℕ) (le : E → ℕ)
+    → Falls ar fr lr → Falls aw fw lw → Falls ae fe le → Falls (asks_of ar aw ae) (fed_of fr fw fe) (left_of lr lw le)
+falls_of ar aw ae fr fw fe lr lw le r w e (machine.Poll m) n on = polls.falls_of m n on
+falls_of ar aw ae fr fw fe lr lw le r w e (machine.New m) n on = makes.falls_of m n on
+falls_of ar aw ae fr fw fe lr lw le r w e (machine.Read m) n on = r m n on
+falls_of ar aw ae fr fw fe lr lw le r w e (machine.Write m) n on = w m n on
+falls_of ar aw ae fr fw fe lr lw le r w e (machine.Exchange m) n on = e m n on
+falls_of ar aw ae fr fw fe lr lw le r w e (machine.Retire m) n on = retires.falls_of m n on
+falls_of ar aw ae fr fw fe lr lw le r w e machine.Idle n on = absurd (on refl)
+falls_of ar aw ae fr fw fe lr lw le r w e machine.Retired n on = absurd (on refl)

@@ -1,9 +1,11 @@
 -- The exchange at one word.
-use Rattle.std.specs.Prelude.{◌≡◌, ◌≢◌, ℕ, ◌<◌, ◌==◌, if◌then◌else◌, Bool, true, false, not, ◌&&◌, Option, Some, None, refl}
+use Rattle.std.specs.Prelude.{◌≡◌, ◌≢◌, ℕ, ◌<◌, ◌==◌, if◌then◌else◌, Bool, true, false, Option, Some, None, refl}
 use Rattle.std.proofs.Common.{lit<, arith}
 use Rattle.call_steps.specs.declared.step.Step.{Step}
 use Rattle.call_steps.specs.declared.step.Step.TheVariants.{Load, Store, Exchange, Ended}
 use Rattle.heap_words.specs.FieldWords.{field_at, is_same_value}
+use Rattle.barriers.specs.declared.front.Front.{Front}
+use Rattle.barriers.specs.declared.front.Front.TheVariants.{Stays, Now, SealedOrNow}
 use Rattle.barriers.specs.declared.ends.TryRefusal.TheVariants.{Raced}
 use Rattle.barriers.specs.declared.ends.ExchangeEnd.{ExchangeEnd}
 use Rattle.barriers.specs.declared.ends.ExchangeEnd.TheVariants.{Done, Differs, Refused}
@@ -65,11 +67,11 @@ left_of (plain.Load swap) = 4
 left_of (plain.Try swap wanted tries) = exchanges_left tries
 left_of (plain.Ended end) = 0
 
--- whether its step, where it finds this word, finds another value than the expected one and wins no exchange
-abbrev pub sees : PlainExchange → ℕ → Bool
-sees (plain.Load swap) found = not (is_expected swap found)
-sees (plain.Try swap wanted tries) found = not (found == wanted) && not (is_expected swap found)
-sees (plain.Ended end) found = false
+-- A word of another value than the expected one is seen: by the load that at the object's seal, by a lost exchange that now.
+abbrev pub front : PlainExchange → ℕ → Front
+front (plain.Load swap) found = if is_expected swap found then Stays else SealedOrNow
+front (plain.Try swap wanted tries) found = if found == wanted then Stays else (if is_expected swap found then Stays else Now)
+front (plain.Ended end) found = Stays
 
 pub blind_of : (m : PlainExchange) (at put n : ℕ) → asks_of m ≡ Store at put → fed_of m n ≡ fed_of m 0
 blind_of (plain.Load swap) at put n e = absurd cc

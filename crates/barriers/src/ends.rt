@@ -72,3 +72,12 @@ pub enum NewEnd {
     /// No object is made.
     Refused(NewRefusal),
 }
+
+/// What a move ends with.
+#[derive(Clone, Copy, Debug, PartialEq, Eq)]
+pub enum MoveEnd {
+    /// The object is at its new place.
+    Moved,
+    /// The object stays where it is: its header has this word.
+    Kept { header: u64 },
+}

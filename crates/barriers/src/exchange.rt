@@ -3,21 +3,31 @@
 ghost use Rattle.std.specs.Prelude.{◌≡◌, ◌<◌, ◌≤◌, ◌^◌, ◌↔◌, IsSome};
 ghost use Rattle.call_steps.specs.declared.step.Step.TheVariants.{Ended as StepEnded};
 ghost use Rattle.heap_words.specs.FieldWords.{field_of};
+ghost use Rattle.heap_words.specs.declared.limits.TheConstants.{ADDRESS_LIMIT};
 ghost use Rattle.handshakes.specs.PhaseWords.{phase_word_of, phase_word_at};
 ghost use Rattle.barriers.specs.declared.exchange.ExchangeMachine.TheVariants.{Header};
-ghost use Rattle.barriers.specs.Spots.{spot_of};
-ghost use Rattle.barriers.specs.Exchanges.{asks_of, fed_of, end_of, exchanged as exchanged_by, with_follow as with_follow_of};
+ghost use Rattle.barriers.specs.Exchanges.{asks_of, fed_of, end_of, errand_of, by_len, exchanged as exchanged_by, with_follow as with_follow_of};
 ghost use Rattle.barriers.specs.Ending.{EndsOnlyFor};
 ghost use Rattle.barriers.specs.Causes.{ExchangeEndsFor};
 
 use crate::ends::{ExchangeEnd, TryRefusal};
-use crate::heap_call::HeapCall;
+use crate::front::Front;
 use crate::packed::len_in;
 use crate::plain_exchange::PlainExchange;
 use crate::spot::Spot;
+use crate::watched::Watched;
 use call_steps::{CallMachine, Machine, Step};
 use handshakes::{FollowMachine, PassView, Phase};
 use heap_words::{FieldWord, Layout};
+
+/// What an exchange is to do: the field is to hold `word`, if it has the value of `expected`.
+#[derive(Clone, Copy, Debug, PartialEq, Eq)]
+pub struct Errand {
+    pub spot: Spot,
+    pub expected: FieldWord,
+    /// The packed word of a number or a link.
+    pub word: u64,
+}
 
 /// Loads the header, and then exchanges the field's word for the new one where it has the expected value.
 /// Where it has another value, follows what was found as the phase asks that the pass has acknowledged. At
@@ -29,20 +39,24 @@ use heap_words::{FieldWord, Layout};
 pub enum ExchangeMachine {
     /// Loads the header.
     Header {
-        spot: Spot,
+        errand: Errand,
         phase: Phase,
-        expected: FieldWord,
-        word: u64,
     },
     /// Exchanges the field's word. It has ended where this exchange has.
     Field {
-        spot: Spot,
+        errand: Errand,
         phase: Phase,
         exchange: PlainExchange,
     },
     /// Follows what was found in place of the expected value. It has ended where this has.
-    Follow(FollowMachine),
-    Ended(ExchangeEnd),
+    Follow {
+        errand: Errand,
+        machine: FollowMachine,
+    },
+    Ended {
+        errand: Errand,
+        end: ExchangeEnd,
+    },
 }
 
 /// The steps that a follow takes at most.
@@ -60,20 +74,44 @@ fn with_follow(left: u32) -> u32
     left + MOST_TO_FOLLOW
 }
 
+// With the header's len at hand.
+fn begun(errand: Errand, phase: Phase, len: u32) -> ExchangeMachine
+    ensures { result ≡ by_len errand phase len }
+{
+    let Errand {
+        spot,
+        expected,
+        word,
+    } = errand;
+    if spot.field < len {
+        ExchangeMachine::Field {
+            errand,
+            phase,
+            exchange: PlainExchange::new(spot.place, expected, word),
+        }
+    } else {
+        ExchangeMachine::Ended {
+            errand,
+            end: ExchangeEnd::Refused(TryRefusal::NoField { len }),
+        }
+    }
+}
+
 // With the exchange of the word as it stands: what differs is followed.
-fn exchanged(spot: Spot, phase: Phase, exchange: PlainExchange) -> ExchangeMachine
-    ensures { result ≡ exchanged_by spot phase exchange }
+fn exchanged(errand: Errand, phase: Phase, exchange: PlainExchange) -> ExchangeMachine
+    ensures { result ≡ exchanged_by errand phase exchange }
 {
     match exchange {
         PlainExchange::Load(_) | PlainExchange::Try { .. } => ExchangeMachine::Field {
-            spot,
+            errand,
             phase,
             exchange,
         },
-        PlainExchange::Ended(ExchangeEnd::Differs(word)) => {
-            ExchangeMachine::Follow(FollowMachine::in_phase(phase, word))
-        }
-        PlainExchange::Ended(end) => ExchangeMachine::Ended(end),
+        PlainExchange::Ended(ExchangeEnd::Differs(word)) => ExchangeMachine::Follow {
+            errand,
+            machine: FollowMachine::in_phase(phase, word),
+        },
+        PlainExchange::Ended(end) => ExchangeMachine::Ended { errand, end },
     }
 }
 
@@ -89,11 +127,11 @@ impl ExchangeMachine {
         expected: FieldWord,
         word: u64,
     ) -> ExchangeMachine
-        requires near { at < 2 ^ 20 }
+        requires near { at < ADDRESS_LIMIT }
         requires acked { IsSome (phase_word_of view.acked) }
         requires packed { word < 2 ^ 62 }
         requires value { IsSome (field_of word) }
-        ensures machine { result ≡ Header (spot_of birth at field) (phase_word_at view.acked).phase expected word }
+        ensures machine { result ≡ Header (errand_of birth at field expected word) (phase_word_at view.acked).phase }
 
         // Whatever others do: it is refused for want of the field only where its first step loaded a header
         // whose len, which the end tells, is not above the field. What differs is what a load of the field,
@@ -103,13 +141,16 @@ impl ExchangeMachine {
         // is now. Any other end has the cause of the plain exchange of the field's word, which begins at the
         // second step.
         ensures cause { EndsOnlyFor asks_of fed_of end_of
-            (ExchangeEndsFor (spot_of birth at field) (phase_word_at view.acked).phase expected word) result }
+            (ExchangeEndsFor (errand_of birth at field expected word) (phase_word_at view.acked).phase) result }
     {
-        ExchangeMachine::Header {
+        let errand = Errand {
             spot: Spot::new(birth, at, field),
-            phase: view.phase(),
             expected,
             word,
+        };
+        ExchangeMachine::Header {
+            errand,
+            phase: view.phase(),
         }
     }
 
@@ -121,8 +162,10 @@ impl ExchangeMachine {
         match *self {
             ExchangeMachine::Header { .. } => None,
             ExchangeMachine::Field { exchange, .. } => exchange.end(),
-            ExchangeMachine::Follow(machine) => Some(ExchangeEnd::Differs(machine.end()?.word)),
-            ExchangeMachine::Ended(end) => Some(end),
+            ExchangeMachine::Follow { machine, .. } => {
+                Some(ExchangeEnd::Differs(machine.end()?.word))
+            }
+            ExchangeMachine::Ended { end, .. } => Some(end),
         }
     }
 }
@@ -138,46 +181,32 @@ impl Machine for ExchangeMachine {
 
     fn ask(&self) -> Step {
         match *self {
-            ExchangeMachine::Header { spot, .. } => Step::Load { at: spot.at },
+            ExchangeMachine::Header { errand, .. } => Step::Load { at: errand.spot.at },
             ExchangeMachine::Field { exchange, .. } => exchange.ask(),
-            ExchangeMachine::Follow(machine) => machine.ask(),
-            ExchangeMachine::Ended(_) => Step::Ended,
+            ExchangeMachine::Follow { machine, .. } => machine.ask(),
+            ExchangeMachine::Ended { .. } => Step::Ended,
         }
     }
 
     fn feed(&mut self, found: u64) {
         *self = match *self {
-            ExchangeMachine::Header {
-                spot,
-                phase,
-                expected,
-                word,
-            } => {
-                let len = len_in(found);
-                if spot.field < len {
-                    let exchange = PlainExchange::new(spot.place, expected, word);
-                    ExchangeMachine::Field {
-                        spot,
-                        phase,
-                        exchange,
-                    }
-                } else {
-                    ExchangeMachine::Ended(ExchangeEnd::Refused(TryRefusal::NoField { len }))
-                }
-            }
+            ExchangeMachine::Header { errand, phase } => begun(errand, phase, len_in(found)),
             ExchangeMachine::Field {
-                spot,
+                errand,
                 phase,
                 mut exchange,
             } => {
                 exchange.feed(found);
-                exchanged(spot, phase, exchange)
+                exchanged(errand, phase, exchange)
             }
-            ExchangeMachine::Follow(mut machine) => {
+            ExchangeMachine::Follow {
+                errand,
+                mut machine,
+            } => {
                 machine.feed(found);
-                ExchangeMachine::Follow(machine)
+                ExchangeMachine::Follow { errand, machine }
             }
-            ExchangeMachine::Ended(end) => ExchangeMachine::Ended(end),
+            ExchangeMachine::Ended { errand, end } => ExchangeMachine::Ended { errand, end },
         };
     }
 }
@@ -200,18 +229,21 @@ impl CallMachine for ExchangeMachine {
         match self {
             ExchangeMachine::Header { .. } => 9,
             ExchangeMachine::Field { exchange, .. } => with_follow(exchange.left()),
-            ExchangeMachine::Follow(machine) => machine.left(),
-            ExchangeMachine::Ended(_) => 0,
+            ExchangeMachine::Follow { machine, .. } => machine.left(),
+            ExchangeMachine::Ended { .. } => 0,
         }
     }
 }
 
-impl HeapCall for ExchangeMachine {
-    ghost use Rattle.barriers.specs.ExchangeMeanings as meanings;
+impl Watched for ExchangeMachine {
+    ghost use Rattle.barriers.specs.Exchanges as exchanges;
 
-    ghost meaning = { meanings.meaning };
+    ghost front = { exchanges.front };
 
-    ghost over = { meanings.over };
-
-    ghost means = { meanings.means };
+    fn front(&self, found: u64) -> Front {
+        match self {
+            ExchangeMachine::Field { exchange, .. } => exchange.front(found),
+            _ => Front::Stays,
+        }
+    }
 }

@@ -2,9 +2,11 @@
 //! that they share, and what each of them answers.
 #![tactic(auto)]
 
+mod copier;
 mod ends;
 mod exchange;
-mod heap_call;
+mod front;
+mod machine_end;
 mod new_object;
 mod packed;
 mod pass;
@@ -13,11 +15,16 @@ mod read;
 mod room;
 mod spot;
 mod value;
+mod watched;
 mod write;
 
-pub use ends::{AccessRefusal, ExchangeEnd, NewEnd, NewRefusal, ReadEnd, TryRefusal, WriteEnd};
-pub use exchange::ExchangeMachine;
-pub use heap_call::HeapCall;
+pub use copier::Copier;
+pub use ends::{
+    AccessRefusal, ExchangeEnd, MoveEnd, NewEnd, NewRefusal, ReadEnd, TryRefusal, WriteEnd,
+};
+pub use exchange::{Errand, ExchangeMachine};
+pub use front::Front;
+pub use machine_end::{MachineEnd, Request, end_of, start, with_end};
 pub use new_object::{NewMachine, NewPlan, Placement};
 pub use pass::{PassMachine, PassRecord};
 pub use plain_exchange::{PlainExchange, Swap, TriesLeft};
@@ -25,6 +32,7 @@ pub use read::ReadMachine;
 pub use room::Room;
 pub use spot::Spot;
 pub use value::value_of;
+pub use watched::Watched;
 pub use write::WriteMachine;
 
 #[cfg(test)]

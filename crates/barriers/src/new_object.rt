@@ -4,8 +4,8 @@ ghost use Rattle.std.specs.Prelude.{◌≡◌, ◌<◌, ◌≤◌, ◌+◌, ◌^
 ghost use Rattle.std.specs.Option.{ForSome};
 ghost use Rattle.call_steps.specs.declared.step.Step.TheVariants.{Ended as StepEnded};
 ghost use Rattle.heap_words.specs.Layouts.{IsLayout, IsPass, IsRegion, first_word};
+ghost use Rattle.heap_words.specs.declared.limits.TheConstants.{BIRTHS_OF_PASS, BIRTH_LIMIT, MOST_FIELDS, MOST_PASSES, REGION_WORDS};
 ghost use Rattle.object_headers.specs.Headers.{word_of_header};
-ghost use Rattle.space_reclaim.specs.OwnRegions.{IsOwn};
 ghost use Rattle.barriers.specs.NewObjects.{asks_of, end_of, left_of, new_of, placed, plan_of, placed_in, claimed, leaving_at, word_of_old};
 ghost use Rattle.barriers.specs.NewObjectCauses.{MakesWithCause};
 ghost use Rattle.barriers.specs.NewObjects.{next_birth as next_birth_of, new_header as header_of_new};
@@ -14,7 +14,7 @@ use crate::ends::{NewEnd, NewRefusal};
 use crate::room::Room;
 use call_steps::{CallMachine, Machine, Step};
 use handshakes::PassView;
-use heap_words::Layout;
+use heap_words::{BIRTHS_BETWEEN_PASSES, BIRTHS_OF_PASS, Layout, MOST_REGIONS, REGION_WORDS};
 use object_headers::{Colour, Header, State};
 use space_reclaim::{ClaimEnd, ClaimMachine, RegionWord, Round};
 
@@ -59,27 +59,18 @@ pub enum NewMachine {
     Ended(NewEnd),
 }
 
-/// How many objects a pass can make.
-const BIRTHS_OF_PASS: u32 = 262_144;
-
-/// How far the birth numbers of two passes are apart.
-const BIRTHS_BETWEEN_PASSES: u32 = 524_288;
-
-/// The words of a region.
-const WORDS_OF_REGION: u32 = 64;
-
 /// No table has a region past this one.
-const LAST_REGION: u32 = 2_559;
+const LAST_REGION: u32 = MOST_REGIONS - 1;
 
 impl Placement {
     // The object behind the used words of a region.
     fn new(layout: &Layout, pass: u32, made: u32, len: u32, region: u32, room: Room) -> Placement
         requires layout { IsLayout layout.now }
         requires pass { IsPass layout.now pass }
-        requires made { made < 262144 }
-        requires fits { room.used + len + 1 ≤ 64 }
-        requires len { len ≤ 30 }
-        requires region { IsOwn layout.now pass region }
+        requires made { made < BIRTHS_OF_PASS }
+        requires fits { room.used + len + 1 ≤ REGION_WORDS }
+        requires len { len ≤ MOST_FIELDS }
+        requires region { IsRegion layout.now region }
         ensures { result ≡ placed (next_birth_of pass made) len region (first_word layout.now region) room.used room.last }
     {
         let at = layout.first_word(region) + room.used;
@@ -102,9 +93,9 @@ impl NewPlan {
     fn new(layout: &Layout, pass: u32, made: u32, len: u32, old: Option<u32>) -> NewPlan
         requires layout { IsLayout layout.now }
         requires pass { IsPass layout.now pass }
-        requires made { made < 262144 }
-        requires len { len ≤ 30 }
-        requires old { ForSome old (IsOwn layout.now pass) }
+        requires made { made < BIRTHS_OF_PASS }
+        requires len { len ≤ MOST_FIELDS }
+        requires old { ForSome old (IsRegion layout.now) }
         ensures { result ≡ plan_of layout.now pass made len old }
     {
         let regions_at = layout.first_word(0) as u16;
@@ -122,7 +113,7 @@ impl NewPlan {
     fn placed_in(&self, region: u32) -> Placement
         ensures { result ≡ placed_in self.now region }
     {
-        let first_word = u32::from(self.regions_at) + WORDS_OF_REGION * region.min(LAST_REGION);
+        let first_word = u32::from(self.regions_at) + REGION_WORDS * region.min(LAST_REGION);
         Placement {
             birth: self.birth,
             at: first_word,
@@ -174,20 +165,20 @@ fn left_of_claim(round: Round) -> u32
 
 // The birth number of a pass's next object.
 fn next_birth(pass: u32, made: u32) -> u32
-    requires pass { pass ≤ 8 }
-    requires made { made < 262144 }
+    requires pass { pass ≤ MOST_PASSES }
+    requires made { made < BIRTHS_OF_PASS }
     ensures number { result ≡ next_birth_of pass made }
     ensures some { 0 < result }
-    ensures small { result < 2 ^ 24 }
+    ensures small { result < BIRTH_LIMIT }
 {
     pass * BIRTHS_BETWEEN_PASSES + made + 1
 }
 
 // The word of a new object's header.
 fn new_header(len: u32, birth: u32) -> u64
-    requires len { len ≤ 30 }
+    requires len { len ≤ MOST_FIELDS }
     requires some { 0 < birth }
-    requires small { birth < 2 ^ 24 }
+    requires small { birth < BIRTH_LIMIT }
     ensures { result ≡ word_of_header (header_of_new len birth) }
 {
     let header = Header {
@@ -212,11 +203,11 @@ impl NewMachine {
     // The machine before its first step, and that the layout is one.
     fn begin(layout: &Layout, view: PassView, room: Room, made: u32, len: u32) -> NewMachine
         requires pass { IsPass layout.now view.pass }
-        requires used { room.used ≤ 64 }
-        requires region { ForSome room.region (IsOwn layout.now view.pass) }
-        requires last { ForSome room.last (IsOwn layout.now view.pass) }
-        requires made { made ≤ 262144 }
-        requires len { len ≤ 30 }
+        requires used { room.used ≤ REGION_WORDS }
+        requires region { ForSome room.region (IsRegion layout.now) }
+        requires last { ForSome room.last (IsRegion layout.now) }
+        requires made { made ≤ BIRTHS_OF_PASS }
+        requires len { len ≤ MOST_FIELDS }
         ensures machine { result ≡ new_of layout.now view room made len }
         ensures layout { IsLayout layout.now }
     {
@@ -226,7 +217,7 @@ impl NewMachine {
             return NewMachine::Ended(NewEnd::Refused(NewRefusal::BirthsSpent));
         }
         match room.region {
-            Some(region) if room.used + len + 1 <= WORDS_OF_REGION => {
+            Some(region) if room.used + len + 1 <= REGION_WORDS => {
                 NewMachine::Header(Placement::new(layout, pass, made, len, region, room))
             }
             _ => {
@@ -239,19 +230,19 @@ impl NewMachine {
     /// The next object of a pass, with `len` fields, of which the pass has made `made`.
     pub fn new(layout: &Layout, view: PassView, room: Room, made: u32, len: u32) -> NewMachine
         requires pass { IsPass layout.now view.pass }
-        requires used { room.used ≤ 64 }
-        requires region { ForSome room.region (IsOwn layout.now view.pass) }
-        requires last { ForSome room.last (IsOwn layout.now view.pass) }
-        requires made { made ≤ 262144 }
-        requires len { len ≤ 30 }
+        requires used { room.used ≤ REGION_WORDS }
+        requires region { ForSome room.region (IsRegion layout.now) }
+        requires last { ForSome room.last (IsRegion layout.now) }
+        requires made { made ≤ BIRTHS_OF_PASS }
+        requires len { len ≤ MOST_FIELDS }
         ensures machine { result ≡ new_of layout.now view room made len }
         ensures steps { left_of result ≤ layout.now.quota + 4 }
 
         // Whatever others do: the object that it made has the pass's next birth number, its header was stored
-        // where it stands, and there it is the last object of the room's region, one of the pass's own. The
-        // quota is spent only where the object does not fit the pass's region, or there is none, and each
-        // region of the pass's own, so many as the end tells, was found in use. The birth numbers are spent
-        // only behind the 262,144th object, and then it has ended at once.
+        // where it stands, and there it is the last object of the room's region, the one that the pass had or
+        // one of its own. The quota is spent only where the object does not fit the pass's region, or there is
+        // none, and each region of the pass's own, so many as the end tells, was found in use. The birth numbers
+        // are spent only after the last object that a pass makes, and then it has ended at once.
         ensures cause { MakesWithCause layout.now view.pass room made len result }
     {
         NewMachine::begin(layout, view, room, made, len)

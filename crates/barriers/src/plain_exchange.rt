@@ -6,10 +6,10 @@ ghost use Rattle.barriers.specs.declared.plain_exchange.PlainExchange.TheVariant
 ghost use Rattle.barriers.specs.PlainExchanges.{asks_of, fed_of, end_of, exchanges_left};
 ghost use Rattle.barriers.specs.Ending.{EndsOnlyFor};
 ghost use Rattle.barriers.specs.PlainExchangeCauses.{EndsFor};
-ghost use Rattle.barriers.specs.PlainExchanges.{compared as compared_by, lost as lost_by, again as again_by, sees as sees_by};
+ghost use Rattle.barriers.specs.PlainExchanges.{compared as compared_by, lost as lost_by, again as again_by, front as front_of};
 
 use crate::ends::{ExchangeEnd, TryRefusal};
-use crate::heap_call::HeapCall;
+use crate::front::Front;
 use crate::packed::held_by;
 use call_steps::{CallMachine, Machine, Step};
 use heap_words::{FieldWord, same_value};
@@ -93,17 +93,19 @@ impl PlainExchange {
         }
     }
 
-    /// Whether its step, where it finds this word, finds another value than the expected one and is no
-    /// exchange that wanted the word. With that it ends.
-    pub(crate) fn sees(&self, found: u64) -> bool
-        ensures { result ≡ sees_by self.now found }
+    /// What its step, where it finds this word and changes nothing, makes of the changes that its pass has
+    /// seen, at a field in its original: a word that has the expected value ends nothing, and counts for
+    /// nothing.
+    pub(crate) fn front(&self, found: u64) -> Front
+        ensures { result ≡ front_of self.now found }
     {
         match *self {
-            PlainExchange::Load(swap) => !same_value(swap.expected, held_by(found)),
-            PlainExchange::Try { swap, wanted, .. } => {
-                found != wanted && !same_value(swap.expected, held_by(found))
+            PlainExchange::Load(swap) if !same_value(swap.expected, held_by(found)) => {
+                Front::SealedOrNow
             }
-            PlainExchange::Ended(_) => false,
+            PlainExchange::Try { swap, wanted, .. }
+                if found != wanted && !same_value(swap.expected, held_by(found)) => { Front::Now }
+            _ => Front::Stays,
         }
     }
 }
@@ -211,14 +213,4 @@ impl CallMachine for PlainExchange {
             PlainExchange::Ended(_) => 0,
         }
     }
-}
-
-impl HeapCall for PlainExchange {
-    ghost use Rattle.barriers.specs.PlainExchangeMeanings as meanings;
-
-    ghost meaning = { meanings.meaning };
-
-    ghost over = { meanings.over };
-
-    ghost means = { meanings.means };
 }

@@ -1,6 +1,7 @@
 //! A read of a field.
 
 ghost use Rattle.std.specs.Prelude.{◌≡◌, ◌<◌, ◌≤◌, ◌^◌, ◌↔◌, IsSome};
+ghost use Rattle.heap_words.specs.declared.limits.TheConstants.{ADDRESS_LIMIT};
 ghost use Rattle.call_steps.specs.declared.step.Step.TheVariants.{Ended as StepEnded};
 ghost use Rattle.handshakes.specs.PhaseWords.{phase_word_of, phase_word_at};
 ghost use Rattle.barriers.specs.declared.read.ReadMachine.TheVariants.{Header};
@@ -10,9 +11,10 @@ ghost use Rattle.barriers.specs.Ending.{EndsOnlyFor};
 ghost use Rattle.barriers.specs.Causes.{ReadEndsFor};
 
 use crate::ends::ReadEnd;
-use crate::heap_call::HeapCall;
+use crate::front::Front;
 use crate::packed::{held_by, len_in};
 use crate::spot::Spot;
+use crate::watched::Watched;
 use call_steps::{CallMachine, Machine, Step};
 use handshakes::{FollowMachine, PassView, Phase};
 use heap_words::Layout;
@@ -29,16 +31,16 @@ pub enum ReadMachine {
     /// Loads the field.
     Field { spot: Spot, phase: Phase },
     /// Follows what the field held. It has ended where this has.
-    Follow(FollowMachine),
+    Follow { spot: Spot, machine: FollowMachine },
     /// It has ended: the field is at or past `len`, the object's number of fields.
-    NoField { len: u32 },
+    NoField { spot: Spot, len: u32 },
 }
 
 impl ReadMachine {
     /// The read of a field of the object `birth`, which stands at `at`, by this pass. The field number may
     /// be any.
     pub fn new(_layout: &Layout, view: PassView, birth: u32, at: u32, field: u32) -> ReadMachine
-        requires near { at < 2 ^ 20 }
+        requires near { at < ADDRESS_LIMIT }
         requires acked { IsSome (phase_word_of view.acked) }
         ensures machine { result ≡ Header (spot_of birth at field) (phase_word_at view.acked).phase }
 
@@ -62,8 +64,8 @@ impl ReadMachine {
     {
         match *self {
             ReadMachine::Header { .. } | ReadMachine::Field { .. } => None,
-            ReadMachine::Follow(machine) => Some(ReadEnd::Got(machine.end()?.word)),
-            ReadMachine::NoField { len } => Some(ReadEnd::NoField { len }),
+            ReadMachine::Follow { machine, .. } => Some(ReadEnd::Got(machine.end()?.word)),
+            ReadMachine::NoField { len, .. } => Some(ReadEnd::NoField { len }),
         }
     }
 }
@@ -81,7 +83,7 @@ impl Machine for ReadMachine {
         match *self {
             ReadMachine::Header { spot, .. } => Step::Load { at: spot.at },
             ReadMachine::Field { spot, .. } => Step::Load { at: spot.place },
-            ReadMachine::Follow(machine) => machine.ask(),
+            ReadMachine::Follow { machine, .. } => machine.ask(),
             ReadMachine::NoField { .. } => Step::Ended,
         }
     }
@@ -93,17 +95,18 @@ impl Machine for ReadMachine {
                 if spot.field < len {
                     ReadMachine::Field { spot, phase }
                 } else {
-                    ReadMachine::NoField { len }
+                    ReadMachine::NoField { spot, len }
                 }
             }
-            ReadMachine::Field { phase, .. } => {
-                ReadMachine::Follow(FollowMachine::in_phase(phase, held_by(found)))
+            ReadMachine::Field { spot, phase } => {
+                let machine = FollowMachine::in_phase(phase, held_by(found));
+                ReadMachine::Follow { spot, machine }
             }
-            ReadMachine::Follow(mut machine) => {
+            ReadMachine::Follow { spot, mut machine } => {
                 machine.feed(found);
-                ReadMachine::Follow(machine)
+                ReadMachine::Follow { spot, machine }
             }
-            ReadMachine::NoField { len } => ReadMachine::NoField { len },
+            ReadMachine::NoField { spot, len } => ReadMachine::NoField { spot, len },
         };
     }
 }
@@ -126,18 +129,21 @@ impl CallMachine for ReadMachine {
         match self {
             ReadMachine::Header { .. } => 6,
             ReadMachine::Field { .. } => 5,
-            ReadMachine::Follow(machine) => machine.left(),
+            ReadMachine::Follow { machine, .. } => machine.left(),
             ReadMachine::NoField { .. } => 0,
         }
     }
 }
 
-impl HeapCall for ReadMachine {
-    ghost use Rattle.barriers.specs.ReadMeanings as meanings;
+impl Watched for ReadMachine {
+    ghost use Rattle.barriers.specs.Reads as reads;
 
-    ghost meaning = { meanings.meaning };
+    ghost front = { reads.front };
 
-    ghost over = { meanings.over };
-
-    ghost means = { meanings.means };
+    fn front(&self, _found: u64) -> Front {
+        match self {
+            ReadMachine::Field { .. } => Front::SealedOrNow,
+            _ => Front::Stays,
+        }
+    }
 }

@@ -1,7 +1,10 @@
 //! The field that a call is about.
 
-ghost use Rattle.std.specs.Prelude.{◌≡◌, ◌<◌, ◌^◌};
+ghost use Rattle.std.specs.Prelude.{◌≡◌, ◌<◌};
+ghost use Rattle.heap_words.specs.declared.limits.TheConstants.{ADDRESS_LIMIT};
 ghost use Rattle.barriers.specs.Spots.{spot_of};
+
+use heap_words::MOST_FIELDS;
 
 /// A field of the object to which a link leads. An object has its header at its address, and its fields
 /// behind that.
@@ -17,13 +20,10 @@ pub struct Spot {
     pub place: u32,
 }
 
-/// No object has more fields than this.
-const MOST_FIELDS: u32 = 30;
-
 impl Spot {
     /// The field number may be any; past the longest object the place means nothing.
     pub fn new(birth: u32, at: u32, field: u32) -> Spot
-        requires { at < 2 ^ 20 }
+        requires { at < ADDRESS_LIMIT }
         ensures { result ≡ spot_of birth at field }
     {
         Spot {

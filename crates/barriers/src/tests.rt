@@ -223,25 +223,48 @@ fn follows_what_differs(rt: HostRuntime) -> Result<(), Fail> {
     Ok(())
 }
 
-// A read sees what the field holds, and an exchange what differs, by the step behind the header's load.
+/// The machine of a pass whose objects are at rest.
+type AtRestMachine = PassMachine<ReadMachine, WriteMachine, ExchangeMachine>;
+
+// A read sees what the field holds, and an exchange what differs, by the step after the header's load; a
+// write, and a pass that has retired, sees nothing.
 #[test]
 fn sees_the_value_of_a_field(rt: HostRuntime) -> Result<(), Fail> {
     let layout = Layout::new(1, 4, 8, 256)?;
     let view = pass(&rt, FIX);
     let mut words = heap(&rt, rt.alloc(), LEFT_WORD)?;
     let five = pack(FieldWord::Num(5));
-    let mut read = ReadMachine::new(&layout, view, BIRTH, AT, 0);
-    let mut exchange = ExchangeMachine::new(&layout, view, BIRTH, AT, 0, NEW, five);
-    for (by_read, by_exchange) in [(false, false), (true, true), (false, false)] {
-        assert_eq!(rt; PassMachine::Read(read).sees(LEFT_WORD), by_read);
-        assert_eq!(rt;
-            PassMachine::Exchange(exchange).sees(LEFT_WORD),
-            by_exchange
-        );
-        assert!(rt; !PassMachine::Exchange(exchange).sees(OLD_WORD));
+    let read = ReadMachine::new(&layout, view, BIRTH, AT, 0);
+    let write = WriteMachine::new(&layout, view, BIRTH, AT, 1, five);
+    let exchange = ExchangeMachine::new(&layout, view, BIRTH, AT, 0, NEW, five);
+    let mut read = AtRestMachine::Read(read);
+    let mut write = AtRestMachine::Write(write);
+    let mut exchange = AtRestMachine::Exchange(exchange);
+    for seen in [Front::Stays, Front::SealedOrNow, Front::Stays] {
+        assert_eq!(rt; read.front(LEFT_WORD), seen);
+        assert_eq!(rt; write.front(LEFT_WORD), Front::Stays);
+        assert_eq!(rt; exchange.front(LEFT_WORD), seen);
+        assert_eq!(rt; exchange.front(OLD_WORD), Front::Stays);
         step(&rt, &mut words, &mut read);
+        step(&rt, &mut words, &mut write);
         step(&rt, &mut words, &mut exchange);
     }
+    assert_eq!(rt; AtRestMachine::Retired.front(LEFT_WORD), Front::Stays);
+    Ok(())
+}
+
+// An exchange that has lost to another value sees what is there now.
+#[test]
+fn sees_the_value_that_it_lost_to(rt: HostRuntime) -> Result<(), Fail> {
+    let layout = Layout::new(1, 4, 8, 256)?;
+    let five = pack(FieldWord::Num(5));
+    let mut words = heap(&rt, rt.alloc(), OLD_WORD)?;
+    let mut exchange = ExchangeMachine::new(&layout, pass(&rt, FREE), BIRTH, AT, 0, NEW, five);
+    step(&rt, &mut words, &mut exchange);
+    step(&rt, &mut words, &mut exchange);
+    assert_eq!(rt; exchange.front(LEFT_WORD), Front::Now);
+    assert_eq!(rt; exchange.front(NEW_WORD), Front::Stays);
+    assert_eq!(rt; exchange.front(OLD_WORD), Front::Stays);
     Ok(())
 }
 

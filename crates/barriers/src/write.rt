@@ -3,6 +3,7 @@
 ghost use Rattle.std.specs.Prelude.{◌≡◌, ◌<◌, ◌≤◌, ◌^◌, ◌↔◌, IsSome};
 ghost use Rattle.call_steps.specs.declared.step.Step.TheVariants.{Ended as StepEnded};
 ghost use Rattle.heap_words.specs.FieldWords.{field_of};
+ghost use Rattle.heap_words.specs.declared.limits.TheConstants.{ADDRESS_LIMIT};
 ghost use Rattle.handshakes.specs.PhaseWords.{phase_word_of};
 ghost use Rattle.barriers.specs.declared.write.WriteMachine.TheVariants.{Header};
 ghost use Rattle.barriers.specs.Spots.{spot_of};
@@ -11,9 +12,10 @@ ghost use Rattle.barriers.specs.Ending.{EndsOnlyFor};
 ghost use Rattle.barriers.specs.Causes.{WriteEndsFor};
 
 use crate::ends::{TryRefusal, WriteEnd};
-use crate::heap_call::HeapCall;
+use crate::front::Front;
 use crate::packed::len_in;
 use crate::spot::Spot;
+use crate::watched::Watched;
 use call_steps::{CallMachine, Machine, Step};
 use handshakes::PassView;
 use heap_words::Layout;
@@ -25,10 +27,20 @@ use heap_words::Layout;
 #[derive(Clone, Copy, Debug, PartialEq, Eq)]
 pub enum WriteMachine {
     /// Loads the header.
-    Header { spot: Spot, word: u64 },
+    Header {
+        spot: Spot,
+        word: u64,
+    },
     /// Stores the word.
-    Field { spot: Spot, word: u64 },
-    Ended(WriteEnd),
+    Field {
+        spot: Spot,
+        word: u64,
+    },
+    Ended {
+        spot: Spot,
+        word: u64,
+        end: WriteEnd,
+    },
 }
 
 impl WriteMachine {
@@ -42,7 +54,7 @@ impl WriteMachine {
         field: u32,
         word: u64,
     ) -> WriteMachine
-        requires near { at < 2 ^ 20 }
+        requires near { at < ADDRESS_LIMIT }
         requires acked { IsSome (phase_word_of _view.acked) }
         requires packed { word < 2 ^ 62 }
         requires value { IsSome (field_of word) }
@@ -67,7 +79,7 @@ impl WriteMachine {
     {
         match *self {
             WriteMachine::Header { .. } | WriteMachine::Field { .. } => None,
-            WriteMachine::Ended(end) => Some(end),
+            WriteMachine::Ended { end, .. } => Some(end),
         }
     }
 }
@@ -88,7 +100,7 @@ impl Machine for WriteMachine {
                 at: spot.place,
                 put: word,
             },
-            WriteMachine::Ended(_) => Step::Ended,
+            WriteMachine::Ended { .. } => Step::Ended,
         }
     }
 
@@ -99,11 +111,16 @@ impl Machine for WriteMachine {
                 if spot.field < len {
                     WriteMachine::Field { spot, word }
                 } else {
-                    WriteMachine::Ended(WriteEnd::Refused(TryRefusal::NoField { len }))
+                    let end = WriteEnd::Refused(TryRefusal::NoField { len });
+                    WriteMachine::Ended { spot, word, end }
                 }
             }
-            WriteMachine::Field { .. } => WriteMachine::Ended(WriteEnd::Wrote),
-            WriteMachine::Ended(end) => WriteMachine::Ended(end),
+            WriteMachine::Field { spot, word } => WriteMachine::Ended {
+                spot,
+                word,
+                end: WriteEnd::Wrote,
+            },
+            WriteMachine::Ended { spot, word, end } => WriteMachine::Ended { spot, word, end },
         };
     }
 }
@@ -126,17 +143,17 @@ impl CallMachine for WriteMachine {
         match self {
             WriteMachine::Header { .. } => 2,
             WriteMachine::Field { .. } => 1,
-            WriteMachine::Ended(_) => 0,
+            WriteMachine::Ended { .. } => 0,
         }
     }
 }
 
-impl HeapCall for WriteMachine {
-    ghost use Rattle.barriers.specs.WriteMeanings as meanings;
+impl Watched for WriteMachine {
+    ghost use Rattle.barriers.specs.Writes as writes;
 
-    ghost meaning = { meanings.meaning };
+    ghost front = { writes.front };
 
-    ghost over = { meanings.over };
-
-    ghost means = { meanings.means };
+    fn front(&self, _found: u64) -> Front {
+        Front::Stays
+    }
 }

@@ -1,0 +1,10 @@
+pub mod Base
+pub mod Begins
+pub mod Calls
+pub mod Changes
+pub mod Made
+pub mod Outcomes
+pub mod Phases
+pub mod Puts
+pub mod Seen
+pub mod Widens

@@ -1,0 +1,16 @@
+pub mod After
+pub mod Calls
+pub mod Found
+pub mod Frames
+pub mod Headers
+pub mod Made
+pub mod NoticeStores
+pub mod Opening
+pub mod Packed
+pub mod RegionStores
+pub mod Regions
+pub mod Rows
+pub mod Sets
+pub mod Steps
+pub mod Stores
+pub mod WideStores

@@ -1,0 +1,200 @@
+-- What is known of a copier's machines, and the laws of that.
+use Rattle.std.specs.Prelude.{◌≡◌, ℕ, ◌≤◌, ◌<◌, ◌^◌, Bool, true, false, Option, Some, None}
+use Rattle.call_steps.specs.declared.step.Step.{Step}
+use Rattle.call_steps.specs.declared.step.Step.TheVariants.{Ended}
+use Rattle.heap_words.specs.Layouts.{Sizes}
+use Rattle.heap_words.specs.declared.field_word.FieldWord.{FieldWord}
+use Rattle.heap_words.specs.FieldWords.{IsFieldWord, word_of}
+use Rattle.object_headers.specs.declared.header.Header.{Header}
+use Rattle.object_headers.specs.declared.header.State.{State as HeaderState}
+use Rattle.object_headers.specs.declared.header.State.TheVariants as states
+use Rattle.object_headers.specs.Headers.{IsHeader, word_of_header}
+use Rattle.wide_objects.specs.Statuses.{IsStatus, word_of_status}
+use Rattle.space_reclaim.specs.declared.move_job.MoveJob.{MoveJob}
+use Rattle.handshakes.specs.declared.pass_view.PassView.{PassView}
+use Rattle.handshakes.specs.declared.follow.FollowMachine.{FollowMachine}
+use Rattle.handshakes.specs.Follows as follows
+use Rattle.barriers.specs.declared.spot.Spot.{Spot}
+use Rattle.barriers.specs.declared.front.Front.{Front}
+use Rattle.barriers.specs.declared.front.Front.TheVariants.{Stays}
+use Rattle.barriers.specs.declared.ends.ReadEnd.{ReadEnd}
+use Rattle.barriers.specs.declared.ends.ReadEnd.TheVariants as read_end
+use Rattle.barriers.specs.declared.ends.WriteEnd.{WriteEnd}
+use Rattle.barriers.specs.declared.ends.WriteEnd.TheVariants as write_end
+use Rattle.barriers.specs.declared.ends.ExchangeEnd.{ExchangeEnd}
+use Rattle.barriers.specs.declared.ends.ExchangeEnd.TheVariants as exchange_end
+use Rattle.barriers.specs.declared.ends.MoveEnd.{MoveEnd}
+use Rattle.barriers.specs.declared.ends.TryRefusal.{TryRefusal}
+use Rattle.barriers.specs.declared.ends.TryRefusal.TheVariants as refusal
+use Rattle.barriers.specs.Spots as spots
+use Rattle.barriers.specs.States.{State, Absent, Plain, Kept, Tagged, Wide, Moving, Forward, Dead}
+use Rattle.barriers.specs.Stances.{Stance, stance_at, mark_in}
+use Rattle.barriers.specs.Spaces.{Here}
+use Rattle.barriers.specs.Values.{value_of}
+use Rattle.barriers.specs.Knowns.{Task, Reads, Writes, Exchanges, Ending, Got, Wrote, Done, Differs, Refused, Known, Follows, Over, Finds, Nothing, Phase_word, Header_word, Field_word, Wide_word, Address, at_field, head_of, step_of, finds, looks, followed}
+use Rattle.barriers.specs.Moves.{Carried}
+use Rattle.barriers.specs.Protocols.{Protocol}
+use Rattle.barriers.specs.ProtocolLaws.{ProtocolLaws}
+use Rattle.barriers.specs.CycleLaws.{CycleLaws}
+use Rattle.barriers.specs.Says.{IsPacked}
+
+-- Reads, writes, exchanges and moves are done by these machines.
+pub record Kit (R W E M : Type 0) : Type 1 where
+  pub protocol : Protocol
+  -- how they begin, and what they end with
+  pub starts_read : Sizes → PassView → ℕ → ℕ → ℕ → R
+  pub starts_write : Sizes → PassView → ℕ → ℕ → ℕ → ℕ → W
+  pub starts_exchange : Sizes → PassView → ℕ → ℕ → ℕ → FieldWord → ℕ → E
+  pub starts_move : Sizes → MoveJob → ℕ → M
+  pub read_ended : R → Option ReadEnd
+  pub write_ended : W → Option WriteEnd
+  pub exchange_ended : E → Option ExchangeEnd
+  pub move_ended : M → Option MoveEnd
+  -- whether calls mind their pass's mark
+  pub minds : Bool
+  -- what is known of them
+  pub reads : R → Known
+  pub writes : W → Known
+  pub exchanges : E → Known
+  pub moves : M → Carried
+  -- what they keep of their pass is the pass's, and their words are packed
+  pub ReadsFor : PassView → R → Type 0
+  pub WritesFor : PassView → W → Type 0
+  pub ExchangesFor : PassView → E → Type 0
+
+-- what its machines do, a step at a time
+pub record Stepping (R W E M : Type 0) : Type 0 where
+  pub read_asks : R → Step
+  pub write_asks : W → Step
+  pub exchange_asks : E → Step
+  pub move_asks : M → Step
+  pub read_fed : R → ℕ → R
+  pub write_fed : W → ℕ → W
+  pub exchange_fed : E → ℕ → E
+  pub move_fed : M → ℕ → M
+  pub read_front : R → ℕ → Front
+  pub write_front : W → ℕ → Front
+  pub exchange_front : E → ℕ → Front
+  pub read_left : R → ℕ
+  pub write_left : W → ℕ
+  pub exchange_left : E → ℕ
+
+-- the mark that calls of this pass mind
+abbrev pub own_of : Bool → PassView → Option FieldWord
+own_of true v = mark_in v.mark
+own_of false v = None
+
+-- ---- words
+
+-- the state that a header says
+abbrev pub state_by : HeaderState → ℕ → State
+state_by states.Absent target = Absent
+state_by states.Plain target = Plain
+state_by states.Kept target = Kept
+state_by states.Tagged target = Tagged
+state_by states.Wide target = Wide target
+state_by states.Moving target = Moving target
+state_by states.Forward target = Forward target
+state_by states.Dead target = Dead
+
+abbrev pub state_in : Header → State
+state_in h = state_by h.state h.target
+
+-- the header is one of the object of which this one was found
+abbrev pub IsOf : Option Header → Header → Type 0
+IsOf None h = Unit {0}
+IsOf (Some g) h = (h.colour ≡ g.colour) × (h.birth ≡ g.birth) × (h.len ≡ g.len)
+
+-- it is the word of a header in this state
+pub record IsHeaderWord (before : Option Header) (x : State) (len n : ℕ) : Type 0 where
+  pub header : Header
+  pub fits : IsHeader header
+  pub word : n ≡ word_of_header header
+  pub state : state_in header ≡ x
+  pub len_is : (let h = header in h.len) ≡ len
+  pub of : IsOf before header
+
+-- this word stands where a step finds this
+abbrev pub IsWordOf : Known → Finds → ℕ → Type 0
+IsWordOf k Nothing n = Unit {0}
+IsWordOf k (Phase_word p) n = stance_at n ≡ p
+IsWordOf k (Header_word x len) n = IsHeaderWord (head_of k) x len n
+IsWordOf k (Field_word w) n = (n ≡ word_of w) × IsFieldWord w
+IsWordOf k (Wide_word u) n = (n ≡ word_of_status u) × IsStatus u
+IsWordOf k (Address to) n = (n ≡ to) × (to < 2 ^ 20)
+
+-- ---- ends
+
+abbrev pub ending_of : Known → Option Ending
+ending_of (Over s t end) = Some end
+ending_of k = None
+
+-- why a read is refused
+abbrev pub read_refused : TryRefusal → Option ReadEnd
+read_refused (refusal.NoField len) = Some (read_end.NoField len)
+read_refused _ = None
+
+abbrev pub read_said : Ending → Option ReadEnd
+read_said (Got word) = Some (read_end.Got word)
+read_said (Refused why) = read_refused why
+read_said _ = None
+
+abbrev pub write_said : Ending → Option WriteEnd
+write_said Wrote = Some write_end.Wrote
+write_said (Refused why) = Some (write_end.Refused why)
+write_said _ = None
+
+abbrev pub exchange_said : Ending → Option ExchangeEnd
+exchange_said Done = Some exchange_end.Done
+exchange_said (Differs word) = Some (exchange_end.Differs word)
+exchange_said (Refused why) = Some (exchange_end.Refused why)
+exchange_said _ = None
+
+abbrev pub said_by : {E : Type 0} → (Ending → Option E) → Option Ending → Option E
+said_by said None = None
+said_by said (Some end) = said end
+
+-- ---- the laws
+
+-- a machine that stands where this is found, and this word
+pub record Stands {K : Type 0} (knows : K → Known) (For : PassView → K → Type 0) (v : PassView) (m : K) (p : Stance) (x : Here) (copy : FieldWord) (n : ℕ) : Type 0 where
+  pub own : For v m
+  pub spot : Spot
+  pub at : at_field (knows m) ≡ Some spot
+  pub word : IsWordOf (knows m) (finds p x copy (knows m)) n
+
+-- One kind of machine: it asks for the step that is known of it, and goes on as the table says; it follows what it found; and it ends with
+-- what is known.
+pub record Runs {K E : Type 0} (P : Protocol) (own : PassView → Option FieldWord) (asks : K → Step) (fed : K → ℕ → K) (fronts : K → ℕ → Front) (knows : K → Known) (For : PassView → K → Type 0) (ended : K → Option E) (said : Ending → Option E) : Type 0 where
+  pub asks_alike : (v : PassView) (m : K) → For v m → asks m ≡ step_of (knows m)
+  pub goes : (v : PassView) (m : K) (p : Stance) (x : Here) (copy : FieldWord) (n : ℕ) → Stands knows For v m p x copy n
+      → (knows (fed m n) ≡ P.fed (stance_at v.acked) (own v) (knows m) (finds p x copy (knows m))) × For v (fed m n)
+  pub looks_alike : (v : PassView) (m : K) (p : Stance) (x : Here) (copy : FieldWord) (n : ℕ) → Stands knows For v m p x copy n → fronts m n ≡ looks (own v) (knows m) (finds p x copy (knows m))
+  pub follows_on : (v : PassView) (m : K) (s : Spot) (t : Task) (f : FollowMachine) (n : ℕ) → For v m → knows m ≡ Follows s t f → (knows (fed m n) ≡ followed s t (follows.fed_of f n)) × For v (fed m n) × (fronts m n ≡ Stays)
+  pub over : (v : PassView) (m : K) → For v m → asks m ≡ Ended → (s : Spot) × (t : Task) × (end : Ending) × (knows m ≡ Over s t end)
+  pub tells : (m : K) → ended m ≡ said_by said (ending_of (knows m))
+  -- the words that it holds are packed field words
+  pub packed : (v : PassView) (m : K) → For v m → IsPacked (knows m)
+
+module _ {R W E M : Type 0} (kit : Kit R W E M) (by : Stepping R W E M) where
+  abbrev P : Protocol
+  P = kit.protocol
+
+  abbrev minded : PassView → Option FieldWord
+  minded = own_of kit.minds
+
+  -- what a call is when it begins
+  pub record Begins {K : Type 0} (knows : K → Known) (For : PassView → K → Type 0) (left : K → ℕ) (v : PassView) (s : Spot) (t : Task) (m : K) : Type 0 where
+    pub known : knows m ≡ P.begins (stance_at v.acked) (minded v) s t
+    pub own : For v m
+    pub few : left m ≤ 17
+
+  pub record Laws : Type 0 where
+    pub table : ProtocolLaws P
+    pub cycle : CycleLaws P
+    pub reading : Runs P minded by.read_asks by.read_fed by.read_front kit.reads kit.ReadsFor kit.read_ended read_said
+    pub writing : Runs P minded by.write_asks by.write_fed by.write_front kit.writes kit.WritesFor kit.write_ended write_said
+    pub exchanging : Runs P minded by.exchange_asks by.exchange_fed by.exchange_front kit.exchanges kit.ExchangesFor kit.exchange_ended exchange_said
+    pub begins_read : (l : Sizes) (v : PassView) (birth at field : ℕ) → Begins kit.reads kit.ReadsFor by.read_left v (spots.spot_of birth at field) Reads (kit.starts_read l v birth at field)
+    pub begins_write : (l : Sizes) (v : PassView) (birth at field : ℕ) (word : FieldWord) → IsFieldWord word → Begins kit.writes kit.WritesFor by.write_left v (spots.spot_of birth at field) (Writes word) (kit.starts_write l v birth at field (word_of word))
+    pub begins_exchange : (l : Sizes) (v : PassView) (birth at field : ℕ) (expected word : FieldWord) → IsFieldWord word → Begins kit.exchanges kit.ExchangesFor by.exchange_left v (spots.spot_of birth at field) (Exchanges (value_of expected) word) (kit.starts_exchange l v birth at field expected (word_of word))
