@@ -1,0 +1,10 @@
+pub mod CollectorLaws
+pub mod RecordLaws
+pub mod beginnings
+pub mod calls
+pub mod collecting
+pub mod frames
+pub mod opening
+pub mod parties
+pub mod telling
+pub mod turns

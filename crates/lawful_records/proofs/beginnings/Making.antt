@@ -1,0 +1,59 @@
+-- The making of an object begins.
+use Rattle.std.specs.Prelude.{nat_le, nat_lt}
+use Rattle.std.proofs.Common.{◌≡◌, ℕ, ◌+◌, ◌<◌, ◌≤◌, ◌==◌, ◌&&◌, Bool, true, false, if◌then◌else◌, Option, Some, None, refl, arith}
+use Rattle.std.proofs.lemmas.Bool.Decides.{nat_tests}
+use Rattle.heap_words.specs.Layouts.{Sizes}
+use Rattle.heap_words.specs.Packing.{fits_behind}
+use Rattle.heap_words.specs.declared.limits.TheConstants.{BIRTHS_OF_PASS}
+use Rattle.handshakes.specs.declared.pass_view.PassView.{PassView}
+use Rattle.space_reclaim.specs.Claims.{round_of}
+use Rattle.space_reclaim.specs.OwnRegions.{IsOwn, first_own, last_own, begins_at}
+use Rattle.std.specs.Option.{ForSome}
+use Rattle.barriers.specs.declared.ends.NewEnd.TheVariants as new_end
+use Rattle.barriers.specs.declared.ends.NewRefusal.TheVariants.{BirthsSpent}
+use Rattle.barriers.specs.declared.new_object.NewMachine.TheVariants as make
+use Rattle.barriers.specs.declared.room.Room.{Room}
+use Rattle.barriers.specs.NewObjects.{by_fit, new_of}
+use Rattle.barriers.specs.Spaces.{Space}
+use Rattle.lawful_records.specs.Making.{IsRoomIn, IsRoom, IsRound, IsMaking}
+
+-- ---- the round of a claim
+
+begins_own : (l : Sizes) (pass : ℕ) (last : Option ℕ) → IsOwn l pass (begins_at l pass last)
+begins_own l pass None = (omega arith, omega arith)
+begins_own l pass (Some region) = after region (nat_le (first_own l pass) region) (nat_lt region (last_own l pass)) refl refl
+  where
+    after : (region : ℕ) (low high : Bool) → nat_le (first_own l pass) region ≡ low → nat_lt region (last_own l pass) ≡ high → IsOwn l pass (if low && high then region + 1 else first_own l pass)
+    after region true true e f = grind (arith, nat_tests)
+    after region true false e f = (omega arith, omega arith)
+    after region false high e f = (omega arith, omega arith)
+
+round_begins : (l : Sizes) (pass : ℕ) (last : Option ℕ) → IsRound l pass (round_of l pass last)
+round_begins l pass last = record { region = begins_at l pass last; own = begins_own l pass last; at = refl; words_at = refl; first_at = refl; last_at = refl; taken = refl }
+
+-- ---- the making
+
+module _ (l : Sizes) (s : Space) (pass : ℕ) (room : Room) (made len : ℕ) (short : len ≤ 30) where
+  claims : made < 262144 → IsMaking l s pass room made (by_fit l pass room made len room.region false)
+  claims few = by_region room.region
+    where
+      by_region : (region : Option ℕ) → IsMaking l s pass room made (by_fit l pass room made len region false)
+      by_region None = record { len = len; short = short; few = few; plan_is = refl; round_is = round_begins l pass room.last }
+      by_region (Some region) = record { len = len; short = short; few = few; plan_is = refl; round_is = round_begins l pass room.last }
+
+  goes_in : made < 262144 → ForSome room.last (IsOwn l pass) → fits_behind room.used len ≡ true → (region : Option ℕ) → IsRoomIn l s pass region room.used → IsMaking l s pass room made (by_fit l pass room made len region true)
+  goes_in few last fits None is = record { len = len; short = short; few = few; plan_is = refl; round_is = round_begins l pass room.last }
+  goes_in few last fits (Some region) is = record { len = len; short = short; few = few; region = region; used = room.used; last = room.last; last_own = last; is = refl; room = is; fits = grind (arith, nat_tests) }
+
+  by_space : made < 262144 → IsRoom l s pass room → (fits : Bool) → fits_behind room.used len ≡ fits → IsMaking l s pass room made (by_fit l pass room made len room.region fits)
+  by_space few is true e = goes_in few is.last e room.region is.region
+  by_space few is false e = claims few
+
+  by_births : made ≤ 262144 → IsRoom l s pass room → (spent : Bool) → (made == BIRTHS_OF_PASS) ≡ spent
+      → IsMaking l s pass room made (if spent then make.Ended (new_end.Refused BirthsSpent) else by_fit l pass room made len room.region (fits_behind room.used len))
+  by_births few is true e = tt
+  by_births few is false e = let less : made < 262144 = grind (arith, nat_tests) in by_space less is (fits_behind room.used len) refl
+
+-- with its room it begins to make an object
+pub new_makes : (l : Sizes) (s : Space) (view : PassView) (room : Room) (made len : ℕ) → len ≤ 30 → made ≤ 262144 → IsRoom l s view.pass room → IsMaking l s view.pass room made (new_of l view room made len)
+new_makes l s view room made len short few is = by_births l s view.pass room made len short few is (made == BIRTHS_OF_PASS) refl

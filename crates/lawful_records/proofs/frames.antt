@@ -1,0 +1,6 @@
+pub mod Hearing
+pub mod Machines
+pub mod PassStays
+pub mod Regions
+pub mod SeenTurns
+pub mod Unborn

@@ -1,0 +1,86 @@
+-- The record of a party stays under the turns of others.
+use Rattle.std.proofs.Common.{◌≢◌, ℕ, ◌≤◌, inl, inr, List, length, refl, ap, ◌∙◌, arith}
+use Rattle.heap_words.specs.Layouts.{Sizes}
+use Rattle.handshakes.specs.Handshakes.{Announced}
+use Rattle.handshakes.specs.Polling.{held_in}
+use Rattle.heap_history.specs.declared.call.Call.{Call}
+use Rattle.barriers.specs.Spaces.{Space}
+use Rattle.barriers.specs.Says.{Notices}
+use Rattle.barriers.specs.Cycles.{Cycle}
+use Rattle.barriers.specs.Protocols.{Protocol}
+use Rattle.barriers.specs.Kits.{Kit}
+use Rattle.lawful_records.specs.Collectors.{AreEarlier}
+use Rattle.lawful_records.specs.Frames.{Grows, SeenBy, Beside}
+use Rattle.lawful_records.specs.LawfulRecords.{IsPassRecord, IsCollectorRecord}
+use Rattle.lawful_records.specs.Records.{number_of, side_of, registers_by, room_by, made_by}
+use Rattle.lawful_records.specs.declared.collector.Awaited.{Awaited}
+use Rattle.lawful_records.specs.declared.collector.CollectorMachine.{CollectorMachine}
+use Rattle.lawful_records.specs.declared.records.PassKnown.{PassKnown}
+use Rattle.lawful_records.specs.declared.records.CollectorKnown.{CollectorKnown}
+use Rattle.lawful_records.proofs.frames.Machines.{good_stays, room_stays, machine_stays}
+use Rattle.lawful_records.proofs.frames.Unborn.{unborn_stays}
+use Rattle.lawful_records.proofs.telling.Telling.{told_grows}
+
+pub seen_same : (P : Protocol) (c : Cycle) (s : Space) → SeenBy P c s s
+seen_same P c s = record { holds = λ birth at is. is; side = λ x is. is; call = λ x k side is. is; heads = λ at live. record { live = live; birth = refl; len = refl; colour = refl } }
+
+-- ---- the collector's
+
+pub grows_length : (m : ℕ) (h g : List Call) → Grows m h g → length h ≤ length g
+grows_length m h g (inl same) = omega (arith, ap length same)
+grows_length m h g (inr grown) = omega (arith, ap length grown.is)
+
+pub earlier_later : (few more : ℕ) (h : Awaited) → few ≤ more → AreEarlier few h → AreEarlier more h
+earlier_later few more h less are = record {
+  mark = omega (arith, are.mark);
+  confirm = omega (arith, are.confirm);
+  copy = omega (arith, are.copy);
+  fix = omega (arith, are.fix);
+  free = omega (arith, are.free);
+}
+
+module _ {R W E M : Type 0} (kit : Kit R W E M) where
+  pub collector_stays : (l : Sizes) (k : CollectorMachine) (m : ℕ) (s t : Space) (q : CollectorKnown) → Grows m s.history t.history → IsCollectorRecord kit l k s q → IsCollectorRecord kit l k t q
+  collector_stays l k m s t q grows is = record {
+    machine = is.machine;
+    cycles = is.cycles;
+    few = is.few;
+    collects = is.collects;
+    awaited = earlier_later (length s.history) (length t.history) q.awaited (grows_length m s.history t.history grows) is.awaited;
+  }
+
+  -- ---- a pass's
+
+  -- where a pass does something without a step
+  pub beside_same : (l : Sizes) (c : Cycle) (m : ℕ) (s : Space) (n : Notices) → Beside kit l c m s s n n
+  beside_same l c m s n = record {
+    seen = seen_same kit.protocol c s;
+    acks = λ pass other. refl;
+    roots = λ pass reg other. refl;
+    phase = refl;
+    mark = refl;
+    regions = λ pass region is other own. record { word = refl; ends = refl };
+    history = inl refl;
+  }
+
+  pub pass_stays : (l : Sizes) (a : Announced) (c : Cycle) (m : ℕ) (s t : Space) (n o : Notices) (p : PassKnown R W E) → number_of p ≢ m → Beside kit l c m s t n o → IsPassRecord kit l a c s n p → IsPassRecord kit l a c t o p
+  pass_stays l a c m s t n o p other beside is = record {
+    number = is.number;
+    side = beside.seen.side (side_of kit p) is.side;
+    answering = record {
+      acked = beside.acks (number_of p) other ∙ is.answering.acked;
+      answers = is.answering.answers;
+      phase = is.answering.phase;
+      retired = is.answering.retired;
+      unmarked = is.answering.unmarked;
+    };
+    shaken = is.shaken;
+    eight = is.eight;
+    registers = λ i. good_stays s t (held_in (registers_by p.pass.machine p.pass.registers) i) beside.seen.holds (is.registers i);
+    room = λ has. room_stays l s t (number_of p) (room_by p.pass.machine p.pass.room) (λ region own. beside.regions (number_of p) region is.number other own) (is.room has);
+    few = is.few;
+    unborn = unborn_stays kit m s.history t.history (number_of p) (made_by p.pass.machine p.pass.made) other beside.history is.unborn;
+    machine = machine_stays kit l c m s t n o p p.pass.machine is.number other beside is.side is.machine;
+    told = told_grows kit m s.history t.history p other beside.history is.told;
+    met = is.met;
+  }

@@ -1,0 +1,5 @@
+-- The start.
+pub mod Counting
+pub mod FirstRecords
+pub mod Objects
+pub mod Opens

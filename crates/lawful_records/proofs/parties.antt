@@ -1,0 +1,4 @@
+pub mod Assembling
+pub mod Counts
+pub mod PassKeeps
+pub mod Pasts

@@ -1,0 +1,13 @@
+pub mod Births
+pub mod Claiming
+pub mod HeaderTurns
+pub mod Heads
+pub mod Holding
+pub mod Making
+pub mod NewTurns
+pub mod OwnTurns
+pub mod PollTurns
+pub mod Polling
+pub mod Resting
+pub mod RetireTurns
+pub mod Stepping

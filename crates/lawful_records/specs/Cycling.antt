@@ -1,0 +1,55 @@
+-- What the collector's machine says of the cycle.
+use Rattle.std.specs.Prelude.{Bool, true, false, None}
+use Rattle.handshakes.specs.Handshakes.{Announced}
+use Rattle.barriers.specs.Stances.{stance_at}
+use Rattle.barriers.specs.Cycles.{Told, Nobody, Anybody, Everybody, Cycle}
+use Rattle.lawful_records.specs.declared.collector.Announcement.{Announcement}
+use Rattle.lawful_records.specs.declared.collector.Announcement.TheVariants.{Mark, Confirm, Copy, Fix, Free}
+use Rattle.lawful_records.specs.declared.collector.CollectorMachine.{CollectorMachine}
+use Rattle.lawful_records.specs.declared.collector.CollectorMachine.TheVariants as collector
+use Rattle.lawful_records.specs.Collectors.{announced_of, before_of, passed_of}
+
+-- what is announced
+abbrev pub announced_by : CollectorMachine → Announced
+announced_by k = record { word = announced_of k; before = before_of k; passed = passed_of k }
+
+-- who has acknowledged the cycle's last Copy word: while this is awaited
+abbrev pub told_awaiting : Announcement → Told
+told_awaiting Mark = Nobody
+told_awaiting Confirm = Nobody
+told_awaiting Copy = Anybody
+told_awaiting Fix = Everybody
+told_awaiting Free = Anybody
+
+-- and before this is announced
+abbrev pub told_before : Announcement → Told
+told_before Mark = Nobody
+told_before Confirm = Nobody
+told_before Copy = Nobody
+told_before Fix = Everybody
+told_before Free = Everybody
+
+abbrev pub told_by : CollectorMachine → Told
+told_by (collector.Announce s) = told_before s.announcement
+told_by (collector.Await s pass m) = told_awaiting s.announcement
+told_by (collector.Done s) = Nobody
+
+-- words of moved originals may be read: until all passes have answered Fix
+abbrev pub is_late : Announcement → Bool
+is_late Free = false
+is_late announcement = true
+
+abbrev pub late_by : CollectorMachine → Bool
+late_by (collector.Announce s) = is_late s.announcement
+late_by (collector.Await s pass m) = is_late s.announcement
+late_by (collector.Done s) = true
+
+-- the cycle as copiers see it; no mark is drawn yet, and no search ends clear
+abbrev pub cycle_of : CollectorMachine → Cycle
+cycle_of k = record {
+  late = late_by k;
+  phase = stance_at (announced_of k);
+  told = told_by k;
+  mark = None;
+  clear = false;
+}

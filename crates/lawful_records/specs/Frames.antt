@@ -1,0 +1,57 @@
+-- What the turn of one party leaves of what the others stand on.
+use Rattle.std.specs.Prelude.{◌≡◌, ◌≢◌, ℕ, ◌⊎◌, IsTrue, List, ◌∷◌}
+use Rattle.heap_words.specs.Layouts.{Sizes, IsPass}
+use Rattle.space_reclaim.specs.OwnRegions.{IsOwn}
+use Rattle.heap_history.specs.FixedHeaps.{answer}
+use Rattle.heap_history.specs.Histories.{pass_of, is_change}
+use Rattle.heap_history.specs.NewestFirst.{heap_of_history}
+use Rattle.heap_history.specs.declared.call.Call.{Call}
+use Rattle.barriers.specs.States.{IsLive}
+use Rattle.barriers.specs.Spaces.{Space, Holds}
+use Rattle.barriers.specs.Says.{Notices}
+use Rattle.barriers.specs.Cycles.{Cycle, Side}
+use Rattle.barriers.specs.Knowns.{Known}
+use Rattle.barriers.specs.Protocols.{Protocol}
+use Rattle.barriers.specs.Objects.{IsSide, IsCall}
+use Rattle.barriers.specs.Kits.{Kit}
+
+-- the second history is the first with a change of this pass, which fits the heap before it
+pub record HasChange (pass : ℕ) (before after : List Call) : Type 0 where
+  pub call : Call
+  pub by : pass_of call ≡ pass
+  pub fits : IsTrue (is_change (answer (heap_of_history before) call))
+  pub is : after ≡ call ∷ before
+
+-- a turn of this party leaves the history, or adds a change to it
+abbrev pub Grows : ℕ → List Call → List Call → Type 0
+Grows pass before after = (after ≡ before) ⊎ HasChange pass before after
+
+-- the object at an address is live still, with its length, its birth number and its colour
+pub record IsSameAt (s t : Space) (at : ℕ) : Type 0 where
+  pub live : IsLive (t.state at)
+  pub birth : t.birth at ≡ s.birth at
+  pub len : t.len at ≡ s.len at
+  pub colour : t.colour at ≡ s.colour at
+
+-- links hold, sides and calls stay what they are, and so do objects
+pub record SeenBy (P : Protocol) (c : Cycle) (s t : Space) : Type 0 where
+  pub holds : (birth at : ℕ) → Holds s birth at → Holds t birth at
+  pub side : (x : Side) → IsSide P c s x → IsSide P c t x
+  pub call : (x : Side) (k : Known) → IsSide P c s x → IsCall P c s x k → IsCall P c t x k
+  pub heads : (at : ℕ) → IsLive (s.state at) → IsSameAt s t at
+
+-- the region keeps its word, and its objects end where they did
+pub record SameRegion (s t : Space) (region : ℕ) : Type 0 where
+  pub word : t.region region ≡ s.region region
+  pub ends : t.ends region ≡ s.ends region
+
+module _ {R W E M : Type 0} (kit : Kit R W E M) where
+  -- The mover is pass m, or the collector with 0; the space goes from s to t, and the notices from n to o.
+  pub record Beside (l : Sizes) (c : Cycle) (m : ℕ) (s t : Space) (n o : Notices) : Type 0 where
+    pub seen : SeenBy kit.protocol c s t
+    pub acks : (pass : ℕ) → pass ≢ m → o.ack pass ≡ n.ack pass
+    pub roots : (pass reg : ℕ) → pass ≢ m → o.root pass reg ≡ n.root pass reg
+    pub phase : o.phase ≡ n.phase
+    pub mark : o.mark ≡ n.mark
+    pub regions : (pass region : ℕ) → IsPass l pass → pass ≢ m → IsOwn l pass region → SameRegion s t region
+    pub history : Grows m s.history t.history

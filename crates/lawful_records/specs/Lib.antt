@@ -1,0 +1,14 @@
+pub mod Beginnings
+pub mod Collectors
+pub mod Cycling
+pub mod Frames
+pub mod Handshakes
+pub mod HeaderChanges
+pub mod LawfulRecords
+pub mod Making
+pub mod Meetings
+pub mod Opening
+pub mod PassTurns
+pub mod Records
+pub mod Running
+pub mod Turns

@@ -1,0 +1,77 @@
+-- A turn of a pass: what holds where it takes its step, and what the step makes of that.
+use Rattle.std.specs.Prelude.{◌≡◌, ◌≢◌, ℕ, List, length, slice_index, IsSome, Option, None}
+use Rattle.call_steps.specs.Steps.{place_of, applied}
+use Rattle.call_steps.specs.StepLaws.{reading}
+use Rattle.heap_words.specs.Layouts.{Sizes, IsLayout, IsPass, words_of}
+use Rattle.heap_history.specs.declared.call.Call.{Call}
+use Rattle.handshakes.specs.Handshakes.{Announced, Answers}
+use Rattle.handshakes.specs.PhaseWords.{retired_word, phase_word_of}
+use Rattle.barriers.specs.Spaces.{Space}
+use Rattle.barriers.specs.Says.{Notices, Says}
+use Rattle.barriers.specs.Rows.{Rows}
+use Rattle.barriers.specs.Stances.{stance_at}
+use Rattle.barriers.specs.Cycles.{Cycle, Side, Handshaken}
+use Rattle.barriers.specs.Objects.{AreObjects, HasLens}
+use Rattle.barriers.specs.Kits.{Kit, Stepping}
+use Rattle.lawful_records.specs.Frames.{Beside}
+use Rattle.lawful_records.specs.LawfulRecords.{IsUnsealed, IsPassRecord}
+use Rattle.lawful_records.specs.Records.{number_of}
+use Rattle.lawful_records.specs.Turns.{pass_asks, pass_turned, change_by, with_change}
+use Rattle.barriers.specs.declared.pass.PassMachine.{PassMachine}
+use Rattle.lawful_records.specs.declared.records.PassKnown.{PassKnown}
+
+-- What a collector's announcement is to a pass: no pass has ended by it, it is the cycle's phase word, and who has answered fits the cycle.
+pub record IsAnnounced (l : Sizes) (a : Announced) (c : Cycle) : Type 0 where
+  pub stance : stance_at a.word ≡ c.phase
+  pub runs : a.word ≢ retired_word
+  pub phase : IsSome (phase_word_of a.word)
+  pub shaken : (side : Side) (word : ℕ) → IsPass l side.pass → Answers a side.pass word → word ≢ retired_word → side.acked ≡ stance_at word → side.own ≡ None → Handshaken c side
+
+-- the pass in this machine
+abbrev pub in_machine : {R W E : Type 0} → PassKnown R W E → PassMachine R W E → PassKnown R W E
+in_machine p m = record p { pass = record p.pass { machine = m } }
+
+module _ {R W E M : Type 0} (kit : Kit R W E M) (by : Stepping R W E M) where
+  -- the words say the space, in which the objects are as the history has them, and the pass stands where it is
+  pub record PassStands (l : Sizes) (a : Announced) (c : Cycle) (s : Space) (n : Notices) (p : PassKnown R W E) (words : List ℕ) : Type 0 where
+    pub layout : IsLayout l
+    pub width : length words ≡ words_of l
+    pub says : Says l (reading words) s n
+    pub announcement : IsAnnounced l a c
+    pub announced : n.phase ≡ a.word
+    pub unmarked : n.mark ≡ 0
+    pub rows : Rows l s.state s.len s.ends s.region
+    pub objects : AreObjects kit.protocol c s
+    pub lens : HasLens s
+    pub plain : (at : ℕ) → IsUnsealed kit (s.state at) (s.seal at)
+    pub own : IsPassRecord kit l a c s n p
+
+  -- the word that its step finds
+  abbrev pub found_by : PassKnown R W E → List ℕ → ℕ
+  found_by p words = slice_index words (place_of (pass_asks kit by p.pass.machine))
+
+  -- the change that its step is, if it is one
+  abbrev pub change_in : PassKnown R W E → List ℕ → Option Call
+  change_in p words = change_by kit by p.pass.machine (number_of p) (found_by p words)
+
+  -- the pass after its step
+  abbrev pub pass_after : Space → PassKnown R W E → List ℕ → PassKnown R W E
+  pass_after s p words = pass_turned kit by s.history p (found_by p words)
+
+  -- after the step the words say this space, and all of that holds of it; to others the step is as one of this pass's
+  pub record PassTurn (l : Sizes) (a : Announced) (c : Cycle) (s : Space) (n : Notices) (p : PassKnown R W E) (words : List ℕ) (t : Space) (o : Notices) : Type 0 where
+    pub says : Says l (reading (applied (pass_asks kit by p.pass.machine) words)) t o
+    pub rows : Rows l t.state t.len t.ends t.region
+    pub objects : AreObjects kit.protocol c t
+    pub lens : HasLens t
+    pub plain : (at : ℕ) → IsUnsealed kit (t.state at) (t.seal at)
+    pub beside : Beside kit l c (number_of p) s t n o
+    pub history : t.history ≡ with_change (change_in p words) s.history
+    pub number : number_of (pass_after s p words) ≡ number_of p
+    pub own : IsPassRecord kit l a c t o (pass_after s p words)
+
+  -- there is such a turn
+  pub record HasTurn (l : Sizes) (a : Announced) (c : Cycle) (s : Space) (n : Notices) (p : PassKnown R W E) (words : List ℕ) : Type 0 where
+    pub space : Space
+    pub notices : Notices
+    pub turn : PassTurn l a c s n p words space notices

@@ -1,0 +1,93 @@
+-- What a step makes of the record of its party.
+use Rattle.std.specs.Prelude.{ℕ, List, ◌∷◌, length, Option, Some, None, if◌then◌else◌}
+use Rattle.object_headers.specs.Headers.{header_at}
+use Rattle.call_steps.specs.declared.step.Step.{Step}
+use Rattle.heap_history.specs.declared.call.Call.{Call}
+use Rattle.heap_history.specs.declared.call.Call.TheVariants as calls
+use Rattle.barriers.specs.declared.front.Front.{Front}
+use Rattle.barriers.specs.declared.front.Front.TheVariants.{Stays, Now, SealedOrNow}
+use Rattle.barriers.specs.declared.new_object.NewMachine.{NewMachine}
+use Rattle.barriers.specs.declared.new_object.NewMachine.TheVariants as make
+use Rattle.barriers.specs.declared.pass.PassMachine.{PassMachine}
+use Rattle.barriers.specs.declared.pass.PassMachine.TheVariants as machine
+use Rattle.barriers.specs.Knowns.{Known, spot_of, task_of, call_of}
+use Rattle.barriers.specs.Protocols.{has_made}
+use Rattle.barriers.specs.Kits.{Kit, Stepping}
+use Rattle.barriers.specs.PassMachines as pass_machines
+use Rattle.lawful_records.specs.Collectors as collectors
+use Rattle.lawful_records.specs.Records.{number_of, history_of}
+use Rattle.lawful_records.specs.declared.records.PassKnown.{PassKnown}
+use Rattle.lawful_records.specs.declared.records.CollectorKnown.{CollectorKnown}
+use Rattle.lawful_records.specs.declared.records.Party.{Party}
+use Rattle.lawful_records.specs.declared.records.Party.TheVariants as party
+
+-- ---- changes
+
+-- the store of its header makes an object
+abbrev pub change_new : NewMachine → ℕ → Option Call
+change_new (make.Header placement) pass = Some (calls.NewObject pass placement.birth (let header = header_at placement.header in header.len))
+change_new m pass = None
+
+-- a call that has ended with its change
+abbrev pub change_call : Known → ℕ → Option Call
+change_call k pass = if has_made k then Some (call_of pass (spot_of k) (task_of k)) else None
+
+abbrev pub with_change : Option Call → List Call → List Call
+with_change None h = h
+with_change (Some c) h = c ∷ h
+
+-- what was seen after a step that is this change, or a look with this front; nothing is sealed yet
+abbrev pub seen_by : Option Call → Front → List Call → List Call → List Call
+seen_by (Some c) front h seen = c ∷ h
+seen_by None Stays h seen = seen
+seen_by None Now h seen = h
+seen_by None SealedOrNow h seen = h
+
+module _ {R W E M : Type 0} (kit : Kit R W E M) (by : Stepping R W E M) where
+  -- the step that a pass's machine asks for, and the machine when it was fed
+  abbrev pub pass_asks : PassMachine R W E → Step
+  pass_asks = pass_machines.asks_of by.read_asks by.write_asks by.exchange_asks
+
+  abbrev pub pass_fed : PassMachine R W E → ℕ → PassMachine R W E
+  pass_fed = pass_machines.fed_of by.read_fed by.write_fed by.exchange_fed
+
+  -- the change that its step is, where it finds this word
+  abbrev pub change_by : PassMachine R W E → ℕ → ℕ → Option Call
+  change_by (machine.New m) pass n = change_new m pass
+  change_by (machine.Write m) pass n = change_call (kit.writes (by.write_fed m n)) pass
+  change_by (machine.Exchange m) pass n = change_call (kit.exchanges (by.exchange_fed m n)) pass
+  change_by m pass n = None
+
+  -- the front of the look that it is
+  abbrev pub front_by : PassMachine R W E → ℕ → Front
+  front_by (machine.Read m) n = by.read_front m n
+  front_by (machine.Write m) n = by.write_front m n
+  front_by (machine.Exchange m) n = by.exchange_front m n
+  front_by m n = Stays
+
+  -- a pass that took its step, where this was the history: its machine, what it has seen, and its own changes; nothing else
+  abbrev pub pass_turned : List Call → PassKnown R W E → ℕ → PassKnown R W E
+  pass_turned h p n =
+      let change = change_by p.pass.machine (number_of p) n in
+      let seen = seen_by change (front_by p.pass.machine n) h p.seen in
+      record p {
+        pass = record p.pass { machine = pass_fed p.pass.machine n; seen = length seen };
+        seen = seen;
+        mine = with_change change p.mine;
+      }
+
+  -- the collector that took its step
+  abbrev pub collector_turned : List Call → CollectorKnown → ℕ → CollectorKnown
+  collector_turned h q n = record {
+    machine = collectors.fed_of q.machine n;
+    awaited = collectors.awaits_behind q.machine (collectors.fed_of q.machine n) (length h) q.awaited;
+  }
+
+  abbrev pub party_asks : Party R W E → Step
+  party_asks (party.Pass p) = pass_asks p.pass.machine
+  party_asks (party.Collector q) = collectors.asks_of q.machine
+
+  -- the record after its turn among the others
+  abbrev pub turned : List (Party R W E) → Party R W E → ℕ → Party R W E
+  turned others (party.Pass p) n = party.Pass (pass_turned (history_of (party.Pass p ∷ others)) p n)
+  turned others (party.Collector q) n = party.Collector (collector_turned (history_of (party.Collector q ∷ others)) q n)

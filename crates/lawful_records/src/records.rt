@@ -1,0 +1,30 @@
+//! What is known of each party. No value of a record is made: what runs keeps counts, and the records are read off it.
+
+use crate::collector::{Awaited, CollectorMachine};
+use barriers::PassRecord;
+use heap_history::{Call, Ended};
+use std::collections::LinkedList;
+
+/// What is known of a pass.
+pub struct PassKnown<R, W, E> {
+    pub pass: PassRecord<R, W, E>,
+    /// The changes that it has seen, its own and others', the newest first.
+    pub seen: LinkedList<Call>,
+    /// Its own changes, the newest first: among them the objects that it has made, with their lens.
+    pub mine: LinkedList<Call>,
+    /// The calls that it has ended, in order of time.
+    pub ended: LinkedList<Ended>,
+}
+
+/// What is known of the collector.
+pub struct CollectorKnown {
+    pub machine: CollectorMachine,
+    /// How many changes there were when the awaits of the running cycle ended.
+    pub awaited: Awaited,
+}
+
+/// What is known of a party.
+pub enum Party<R, W, E> {
+    Pass(PassKnown<R, W, E>),
+    Collector(CollectorKnown),
+}
