@@ -1,77 +1,39 @@
 -- Runs keep worlds lawful, and where every party has ended the answers of the threads are allowed.
-use Rattle.std.proofs.Common.{◌≡◌, ℕ, zero, suc, ◌+◌, ◌-◌, ◌≤◌, ◌<◌, Bool, true, false, cond, List, [], ◌∷◌, length, get_or, Option, Some, None, refl, sym, ap, ◌∙◌, subst, arith, inl, inr, length-set}
-use Rattle.std.specs.Prelude.{not}
-use Rattle.std.specs.List.{filter, range_with_len, All, Contains}
+use Rattle.std.proofs.Common.{◌≡◌, ℕ, zero, suc, ◌+◌, ◌≤◌, ◌<◌, Bool, true, false, cond, List, [], ◌∷◌, length, Option, Some, None, refl, sym, ap, ◌∙◌, subst, arith, inl, inr}
+use Rattle.std.specs.Prelude.{not, slice_get, ◌↔◌, IsTrue}
+use Rattle.std.specs.List.{filter, range_with_len, Contains}
 use Rattle.std.proofs.lemmas.Bool.Decides.{eqb_tells}
 use Rattle.std.proofs.lemmas.Bool.{le-ltb}
 use Rattle.std.proofs.lemmas.List.Elements.{All-contains, filter_passes}
 use Rattle.heap_words.specs.Layouts.{Sizes, IsPass}
-use Rattle.heap_history.specs.declared.call.Call.{Call}
-use Rattle.heap_history.specs.declared.call.Ended.{Ended}
-use Rattle.heap_history.specs.Histories.{pass_of}
+use Rattle.heap_history.specs.Logs.{AreOfPasses, changes_of}
 use Rattle.heap_script.specs.declared.script.Command.{Command}
-use Rattle.heap_script.specs.declared.script.Line.{Line}
-use Rattle.heap_script.specs.declared.answer.Answer.{Answer}
-use Rattle.heap_script.specs.Allowed.{IsAllowed, AllAllowed, IsAllowedThread, commands_of}
+use Rattle.heap_script.specs.declared.script.Command.TheVariants as commands
+use Rattle.heap_script.specs.AllowedLaws.{log_allowed}
+use Rattle.heap_script.specs.Allowed.{IsAllowed, IsAllowedThread, commands_of}
 use Rattle.heap_script.specs.Scripts.{Reading}
+use Rattle.heap_script.specs.Commands.{commands_by, commands_at}
+use Rattle.heap_script.specs.CommandLaws.{commands_at-commands_by}
+use Rattle.heap_script.specs.TellsLaws.{tells_allowed}
+use Rattle.heap_script.specs.TellingSteps.{answers_at}
+use Rattle.call_steps.specs.declared.step.Step.{Step}
+use Rattle.call_steps.specs.declared.step.Step.TheVariants.{Ended}
 use Rattle.barriers.specs.declared.pass.PassRecord.{PassRecord}
 use Rattle.barriers.specs.declared.pass.PassMachine.{PassMachine}
 use Rattle.barriers.specs.declared.pass.PassMachine.TheVariants as machine
+use Rattle.barriers.specs.PassMachines as passes
+use Rattle.barriers.specs.Kits.{Kit, Stepping, Laws}
+use Rattle.lawful_records.specs.Collectors.{asks_of as collector_asks}
 use Rattle.gc_cycle.specs.declared.schedule.Chooser.{Chooser}
 use Rattle.gc_cycle.specs.declared.schedule.Schedule.{Schedule}
-use Rattle.gc_cycle.specs.declared.settling.Settled.{Settled}
-use Rattle.gc_cycle.specs.declared.settling.Settled.TheVariants as settled
 use Rattle.gc_cycle.specs.Schedules.{chooser_of, chosen_by}
-use Rattle.gc_cycle.specs.Settlings.{settled_of, rested}
-use Rattle.gc_cycle.specs.Commands.{commands_by, commands_at}
-use Rattle.gc_cycle.specs.Tellings.{changes_of}
-use Rattle.gc_cycle.specs.Objects.{View}
-use Rattle.gc_cycle.specs.Worlds.{State, pass_at, answers_at, command_at, IsParty, is_idle, is_done, is_collector, can_step, taken_in, settled_at, stepped, fed, moved, pass_turn, collector_turn, turn_of}
-use Rattle.gc_cycle.specs.Lawful.{Lawful, IsAt, made_of, announced_in}
+use Rattle.gc_cycle.specs.Worlds.{State, pass_at, answered, IsParty, is_ended, is_collector, asks_at, next_of, can_step, turn_of}
+use Rattle.gc_cycle.specs.Lawful.{Lawful, IsAt, IsAtCommand}
 use Rattle.gc_cycle.specs.Runs.{ready_of, is_none, is_over, turns_of, run_of}
-use Rattle.gc_cycle.proofs.ByThread.{commands_at-commands_by}
+use Rattle.gc_cycle.proofs.Playing.{Stays, still, later, turn_stays, is_ended-true}
 use Rattle.gc_cycle.proofs.Running.{ready_is_party}
 use Rattle.gc_cycle.proofs.Schedules.{chosen_is_ready}
-use Rattle.gc_cycle.proofs.Tellings.{tells_allowed, All-changes_of}
-use Rattle.gc_cycle.proofs.Turning.{turn_keeps}
-
--- ---- the script stays, and no party comes or goes
-
-pub record Stays (w new : State) : Type 0 where
-  pub layout : new.layout ≡ w.layout
-  pub commands : new.commands ≡ w.commands
-  pub passes : length new.passes ≡ length w.passes
-
-still : (w : State) → Stays w w
-still w = record { layout = refl; commands = refl; passes = refl }
-
-later : (u v w : State) → Stays u v → Stays v w → Stays u w
-later u v w first second = record { layout = second.layout ∙ first.layout; commands = second.commands ∙ first.commands; passes = second.passes ∙ first.passes }
-
-taken_stays : (w : State) (p : ℕ) (s : Settled) → Stays w (taken_in w p s)
-taken_stays w p (settled.Going r) = record { layout = refl; commands = refl; passes = length-set w.passes (p - 1) r }
-taken_stays w p (settled.Answered r answer call) = record { layout = refl; commands = refl; passes = length-set w.passes (p - 1) _ }
-taken_stays w p (settled.Raced r) = record { layout = refl; commands = refl; passes = length-set w.passes (p - 1) r }
-
-settled_stays : (w : State) (p : ℕ) (r : PassRecord) (c : Option Command) → Stays w (settled_at w p r c)
-settled_stays w p r None = record { layout = refl; commands = refl; passes = length-set w.passes (p - 1) (rested r) }
-settled_stays w p r (Some c) = taken_stays w p (settled_of w.layout (length (changes_of w.told.log)) c r)
-
-moved_stays : (w : State) (p : ℕ) → Stays w (moved w p)
-moved_stays w p =
-    let k : PassMachine = (pass_at w p).machine in
-    let s = settled_stays (stepped w k) p (fed w (pass_at w p) k) (command_at w p) in
-    record { layout = s.layout; commands = s.commands; passes = s.passes }
-
-pass_stays : (w : State) (p : ℕ) → Stays w (pass_turn w p)
-pass_stays w p = elim (is_idle (pass_at w p).machine) as (λ b. Stays w (cond b w (moved w p))) [ true ↦ still w | false ↦ moved_stays w p ]
-
-collector_stays : (w : State) → Stays w (collector_turn w)
-collector_stays w = record { layout = refl; commands = refl; passes = refl }
-
--- a turn keeps them
-pub turn_keeps_static : (w : State) (p : ℕ) → Stays w (turn_of w p)
-turn_keeps_static w p = elim (is_collector w p) as (λ b. Stays w (cond b (collector_turn w) (pass_turn w p))) [ true ↦ collector_stays w | false ↦ pass_stays w p ]
+use Rattle.gc_cycle.proofs.Turning.{turn_keeps, retired_at_end}
 
 -- ---- the parties that can step
 
@@ -79,9 +41,9 @@ some_first : (a : ℕ) (xs : List ℕ) (b : Bool) → b ≡ true → Contains (c
 some_first a xs true e = (0, omega arith, refl)
 some_first a xs false e = absurd cc
 
-some_behind : (a : ℕ) (xs : List ℕ) (q : ℕ) (b : Bool) → Contains xs q → Contains (cond b (a ∷ xs) xs) q
-some_behind a xs q true (k, within, here) = (suc k, omega arith, here)
-some_behind a xs q false among = among
+some_after : (a : ℕ) (xs : List ℕ) (q : ℕ) (b : Bool) → Contains xs q → Contains (cond b (a ∷ xs) xs) q
+some_after a xs q true (k, within, here) = (suc k, omega arith, here)
+some_after a xs q false among = among
 
 -- a number that passes the test is among those that do
 kept_in : (test : ℕ → Bool) (a n q : ℕ) → a ≤ q → q < a + n → test q ≡ true → Contains (filter test (range_with_len a n)) q
@@ -93,24 +55,8 @@ kept_in test a (suc n) q above below passes = kept_next test a n q above below p
         → Contains (filter test (range_with_len a (suc n))) q
     kept_next test a n q above below passes rest = elim (eqb_tells q a) [
       | inl same ↦ subst (λ (x : ℕ). Contains (filter test (range_with_len a (suc n))) x) (sym same.1) (some_first a _ (test a) (ap test (sym same.1) ∙ passes))
-      | inr apart ↦ some_behind a _ q (test a) (rest (omega (arith, above, apart.1)) (omega (arith, below)) passes)
+      | inr apart ↦ some_after a _ q (test a) (rest (omega (arith, above, apart.1)) (omega (arith, below)) passes)
     ]
-
--- a thread can step where it is in a machine
-pub thread_steps : (w : State) (p : ℕ) → IsPass w.layout p → can_step w p ≡ not (is_idle (pass_at w p).machine)
-thread_steps w p is =
-    let passes : is_collector w p ≡ false = le-ltb w.layout.passes p is.1 in
-    ap (λ (b : Bool). not (cond b (is_done w.collector) (is_idle (pass_at w p).machine))) passes
-
--- the parties that can step are ready
-pub ready_if : (w : State) (q : ℕ) → IsParty w.layout q → can_step w q ≡ true → Contains (ready_of w) q
-ready_if w q is can = kept_in (can_step w) 1 (w.layout.passes + 1) q is.0 (omega (arith, is.1)) can
-
--- and no others
-pub ready_is : (w : State) (q : ℕ) → Contains (ready_of w) q → IsParty w.layout q × (can_step w q ≡ true)
-ready_is w q among = (ready_is_party w q among, All-contains (λ x. can_step w x ≡ true) (ready_of w) q (filter_passes (can_step w) (range_with_len 1 (w.layout.passes + 1))) among)
-
--- ---- runs
 
 none_is : (xs : List ℕ) → is_none xs ≡ true → length xs ≡ 0
 none_is [] e = refl
@@ -120,97 +66,128 @@ pub some_are : (xs : List ℕ) → is_none xs ≡ false → 0 < length xs
 some_are [] e = absurd cc
 some_are (x ∷ xs) e = omega arith
 
--- What each turn of a ready party keeps, turns keep.
-module _ (J : State → Type 0) (keeps : (w : State) (p : ℕ) → Contains (ready_of w) p → J w → J (turn_of w p)) where
-  next_keeps : (n : ℕ) (chooser : Chooser) (w : State) → ((c : Chooser) (x : State) → J x → J (turns_of n c x)) → J w
-      → (b : Bool) → is_over w ≡ b → J (cond b w (turns_of n (chosen_by chooser (ready_of w)).1 (turn_of w (chosen_by chooser (ready_of w)).0)))
+-- after all commands none is left
+at_end : {X : Type 0} (xs : List X) (n : ℕ) → slice_get xs n ≡ None → n ≤ length xs → n ≡ length xs
+at_end [] n e most = omega arith
+at_end (x ∷ xs) zero e most = absurd cc
+at_end (x ∷ xs) (suc n) e most = let rest = at_end xs n e (omega arith) in omega (arith, rest)
+
+module _ {R W E M : Type 0} (kit : Kit R W E M) (by : Stepping R W E M) where
+  -- a thread can step where its machine asks for a step
+  pub thread_steps : (w : State R W E) (p : ℕ) → IsPass w.layout p → can_step kit by w p ≡ not (is_ended (asks_at kit by w p))
+  thread_steps w p is =
+      let passes : is_collector kit by w p ≡ false = le-ltb w.layout.passes p is.1 in
+      rw passes refl
+
+  -- the collector can where it asks for one
+  pub collector_steps : (w : State R W E) (p : ℕ) (step : Step) (ended : Bool) → is_collector kit by w p ≡ true → step ≡ collector_asks w.collector → ended ≡ is_ended step → not ended ≡ can_step kit by w p
+  collector_steps w p step ended collects asks tested =
+      let is : next_of kit by w p ≡ collector_asks w.collector = rw collects refl in
+      ap not (tested ∙ ap is_ended (asks ∙ sym is))
+
+  -- the parties that can step are ready
+  pub ready_if : (w : State R W E) (q : ℕ) → IsParty w.layout q → can_step kit by w q ≡ true → Contains (ready_of kit by w) q
+  ready_if w q is can = kept_in (can_step kit by w) 1 (w.layout.passes + 1) q is.0 (omega (arith, is.1)) can
+
+  -- and no others
+  pub ready_is : (w : State R W E) (q : ℕ) → Contains (ready_of kit by w) q → IsParty w.layout q × (can_step kit by w q ≡ true)
+  ready_is w q among = (ready_is_party kit by w q among, All-contains (λ x. can_step kit by w x ≡ true) (ready_of kit by w) q (filter_passes (can_step kit by w) (range_with_len 1 (w.layout.passes + 1))) among)
+
+-- ---- runs
+
+-- what each turn of a ready party keeps, turns keep
+module _ {R W E M : Type 0} (kit : Kit R W E M) (by : Stepping R W E M) (J : State R W E → Type 0) (keeps : (w : State R W E) (p : ℕ) → Contains (ready_of kit by w) p → J w → J (turn_of kit by w p)) where
+  next_keeps : (n : ℕ) (chooser : Chooser) (w : State R W E) → ((c : Chooser) (x : State R W E) → J x → J (turns_of kit by n c x)) → J w
+      → (b : Bool) → is_over kit by w ≡ b → J (cond b w (turns_of kit by n (chosen_by chooser (ready_of kit by w)).1 (turn_of kit by w (chosen_by chooser (ready_of kit by w)).0)))
   next_keeps n chooser w rest holds true over = holds
-  next_keeps n chooser w rest holds false on = rest _ _ (keeps w _ (chosen_is_ready chooser (ready_of w) (some_are (ready_of w) on)) holds)
+  next_keeps n chooser w rest holds false on = rest _ _ (keeps w _ (chosen_is_ready chooser (ready_of kit by w) (some_are (ready_of kit by w) on)) holds)
 
-  pub turns_keep : (n : ℕ) (chooser : Chooser) (w : State) → J w → J (turns_of n chooser w)
+  pub turns_keep : (n : ℕ) (chooser : Chooser) (w : State R W E) → J w → J (turns_of kit by n chooser w)
   turns_keep zero chooser w holds = holds
-  turns_keep (suc n) chooser w holds = next_keeps n chooser w (λ c x h. turns_keep n c x h) holds (is_over w) refl
+  turns_keep (suc n) chooser w holds = next_keeps n chooser w (λ c x h. turns_keep n c x h) holds (is_over kit by w) refl
 
--- the world stays lawful
-pub turns_keep_lawful : (n : ℕ) (chooser : Chooser) (w : State) → Lawful w → Lawful (turns_of n chooser w)
-turns_keep_lawful n chooser w lw = turns_keep Lawful (λ x p among h. turn_keeps x h p (ready_is_party x p among)) n chooser w lw
+module _ {R W E M : Type 0} (kit : Kit R W E M) (by : Stepping R W E M) where
+  -- its script and its parties stay
+  pub run_stays : (schedule : Schedule) (steps : ℕ) (w : State R W E) → Stays w (run_of kit by schedule steps w)
+  run_stays schedule steps w = turns_keep kit by (Stays w) (λ x p among h. later w x (turn_of kit by x p) h (turn_stays kit by x p)) steps (chooser_of schedule) w (still w)
 
-pub run_keeps : (schedule : Schedule) (steps : ℕ) (w : State) → Lawful w → Lawful (run_of schedule steps w)
-run_keeps schedule steps w lw = turns_keep_lawful steps (chooser_of schedule) w lw
-
--- its script and its parties stay
-pub turns_keep_static : (n : ℕ) (chooser : Chooser) (w : State) → Stays w (turns_of n chooser w)
-turns_keep_static n chooser w = turns_keep (Stays w) (λ x p among h. later w x (turn_of x p) h (turn_keeps_static x p)) n chooser w (still w)
-
-pub run_keeps_static : (schedule : Schedule) (steps : ℕ) (w : State) → Stays w (run_of schedule steps w)
-run_keeps_static schedule steps w = turns_keep_static steps (chooser_of schedule) w
+  pub run_keeps_commands : (schedule : Schedule) (steps : ℕ) (w new : State R W E) → new ≡ run_of kit by schedule steps w → new.commands ≡ w.commands
+  run_keeps_commands schedule steps w new taken = ap (λ (x : State R W E). x.commands) taken ∙ (let stays = run_stays schedule steps w in stays.commands)
 
 -- ---- the end of a run
 
-idle_if : (w : State) (p : ℕ) → is_over w ≡ true → IsPass w.layout p → (b : Bool) → is_idle (pass_at w p).machine ≡ b → b ≡ true
-idle_if w p over is true ended = refl
-idle_if w p over is false on =
-    let among = ready_if w p (is.0, omega (arith, is.1)) (thread_steps w p is ∙ ap not on) in
-    absurd (omega (arith, none_is (ready_of w) over, among.1))
+module _ {R W E M : Type 0} (kit : Kit R W E M) (by : Stepping R W E M) (laws : Laws kit by) where
+  -- the world stays lawful
+  pub run_keeps : (schedule : Schedule) (steps : ℕ) (w : State R W E) → Lawful kit w → Lawful kit (run_of kit by schedule steps w)
+  run_keeps schedule steps w lw = turns_keep kit by (Lawful kit) (λ x p among h. turn_keeps kit by laws x h p (ready_is_party kit by x p among)) steps (chooser_of schedule) w lw
 
--- where the run is over, every thread has ended
-pub over_is_idle : (w : State) → is_over w ≡ true → (p : ℕ) → IsPass w.layout p → is_idle (pass_at w p).machine ≡ true
-over_is_idle w over p is = idle_if w p over is (is_idle (pass_at w p).machine) refl
+  ended_if : (w : State R W E) (p : ℕ) → is_over kit by w ≡ true → IsPass w.layout p → (b : Bool) → is_ended (asks_at kit by w p) ≡ b → b ≡ true
+  ended_if w p over is true ended = refl
+  ended_if w p over is false on =
+      let among = ready_if kit by w p (is.0, omega (arith, is.1)) (thread_steps kit by w p is ∙ ap not on) in
+      absurd (omega (arith, none_is (ready_of kit by w) over, among.1))
 
--- one that has ended has answered its commands
-pub idle_at_end : (l : Sizes) (made : ℕ → ℕ) (v : View) (log : List Ended) (announced : ℕ) (r : PassRecord) (cs : List Command) (count : ℕ) (m : PassMachine)
-    → is_idle m ≡ true → IsAt l made v log announced r cs count m → count ≡ length cs
-idle_at_end l made v log announced r cs count machine.Idle e at = at
-idle_at_end l made v log announced r cs count (machine.Poll m) e at = absurd cc
-idle_at_end l made v log announced r cs count (machine.New m) e at = absurd cc
-idle_at_end l made v log announced r cs count (machine.Read m) e at = absurd cc
-idle_at_end l made v log announced r cs count (machine.Write m) e at = absurd cc
-idle_at_end l made v log announced r cs count (machine.Exchange m) e at = absurd cc
-idle_at_end l made v log announced r cs count (machine.Retire m) e at = absurd cc
+  -- where the run is over, every thread has ended
+  pub over_is_ended : (w : State R W E) → is_over kit by w ≡ true → (p : ℕ) → IsPass w.layout p → asks_at kit by w p ≡ Ended
+  over_is_ended w over p is =
+      let ended = is_ended (asks_at kit by w p) in
+      let yes : ended ≡ true = ended_if w p over is ended refl in
+      is_ended-true (asks_at kit by w p) yes
 
--- all commands of each thread are answered
-pub over_is_answered : (w : State) → Lawful w → is_over w ≡ true → (p : ℕ) → IsPass w.layout p → length (answers_at w p) ≡ length (commands_at w.commands p)
-over_is_answered w lw over p is =
-    idle_at_end w.layout (made_of w) lw.view w.told.log (announced_in w) (pass_at w p) (commands_at w.commands p) (length (answers_at w p)) (pass_at w p).machine (over_is_idle w over p is) (lw.threads p is).at
+  -- a thread can step unless it has retired
+  steps_by : (w : State R W E) → Lawful kit w → (p : ℕ) → IsPass w.layout p → (retired : Bool) → IsTrue retired ↔ ((let r = pass_at w p in r.machine) ≡ machine.Retired) → (b : Bool) → is_ended (asks_at kit by w p) ≡ b → not retired ≡ not b
+  steps_by w lw p is true tells true e = refl
+  steps_by w lw p is false tells false e = refl
+  steps_by w lw p is true tells false e =
+      let gone : (let r = pass_at w p in r.machine) ≡ machine.Retired = tells.0 refl in
+      let ends : is_ended (asks_at kit by w p) ≡ true = ap (λ (m : PassMachine R W E). is_ended (passes.asks_of by.read_asks by.write_asks by.exchange_asks m)) gone in
+      absurd (cc (e, ends))
+  steps_by w lw p is false tells true e =
+      let gone = tells.1 (retired_at_end kit by laws w lw p is (is_ended-true (asks_at kit by w p) e)) in
+      absurd (cc gone)
 
--- the answers of the threads from one on
-all_allowed : (quota : ℕ) (history : List Call) (lines : List Line) (thread : ℕ) (answers : List (List Answer))
-    → ((i : ℕ) → i < length answers → IsAllowedThread quota (thread + i) history (commands_of (thread + i) lines) (get_or answers i []))
-    → AllAllowed quota history lines thread answers
-all_allowed quota history lines thread [] each = tt
-all_allowed quota history lines thread (first ∷ rest) each =
-    let Here : ℕ → Type 0 = λ t. IsAllowedThread quota t history (commands_of t lines) first in
-    let at : thread + 0 ≡ thread = omega arith in (
-      subst Here at (each 0 (omega arith)),
-      all_allowed quota history lines (thread + 1) rest (λ i within.
-          let There : ℕ → Type 0 = λ t. IsAllowedThread quota t history (commands_of t lines) (get_or rest i []) in
-          let next : thread + suc i ≡ thread + 1 + i = omega arith in
-          subst There next (each (suc i) (omega arith))),
-    )
+  pub steps_unless : (w : State R W E) → Lawful kit w → (p : ℕ) → IsPass w.layout p → (x : PassRecord R W E) → x ≡ pass_at w p → (retired : Bool) → IsTrue retired ↔ (x.machine ≡ machine.Retired) → not retired ≡ can_step kit by w p
+  steps_unless w lw p is x here retired tells =
+      let its = subst (λ (y : PassRecord R W E). IsTrue retired ↔ (y.machine ≡ machine.Retired)) here tells in
+      steps_by w lw p is retired its (is_ended (asks_at kit by w p)) refl ∙ sym (thread_steps kit by w p is)
 
-module _ (s : Reading) (w : State) (lw : Lawful w) (over : is_over w ≡ true) (layout : w.layout ≡ s.layout) (commands : w.commands ≡ commands_by s.layout.passes s.lines) where
+  -- no command is left for one that has retired
+  none_left : (l : Sizes) (p : PassRecord R W E) (command : Option Command) (m : PassMachine R W E) → p.machine ≡ m → m ≡ machine.Retired → IsAtCommand kit l p command → command ≡ None
+  none_left l p None m same retired at = refl
+  none_left l p (Some c) m same retired at = absurd (not_at l p c (subst (λ (k : PassMachine R W E). IsAt kit l p c k) (same ∙ retired) at))
+    where
+      not_at : (l : Sizes) (p : PassRecord R W E) (c : Command) → IsAt kit l p c machine.Retired → ⊥
+      not_at l p (commands.New dst len) at = at
+      not_at l p (commands.Get dst obj field) at = at
+      not_at l p (commands.Put obj field what) at = at
+      not_at l p (commands.Cas dst obj field expected value) at = at
+      not_at l p (commands.Copy dst src) at = at
+      not_at l p (commands.Drop dst) at = at
+      not_at l p commands.Poll at = at
+
+  -- all commands of each thread are answered
+  pub over_is_answered : (w : State R W E) → Lawful kit w → is_over kit by w ≡ true → (p : ℕ) → IsPass w.layout p → answered w p ≡ length (commands_at w.commands p)
+  over_is_answered w lw over p is =
+      let t = lw.threads p is in
+      let retired = retired_at_end kit by laws w lw p is (over_is_ended w over p is) in
+      let left = none_left w.layout (pass_at w p) (slice_get (commands_at w.commands p) (answered w p)) _ refl retired t.at in
+      at_end (commands_at w.commands p) (answered w p) left t.fit
+
+module _ {R W E M : Type 0} (kit : Kit R W E M) (by : Stepping R W E M) (laws : Laws kit by) (s : Reading) (w : State R W E) (lw : Lawful kit w) (over : is_over kit by w ≡ true) (layout : w.layout ≡ s.layout) (commands : w.commands ≡ commands_by s.layout.passes s.lines) where
   count_is : length w.told.answers ≡ s.layout.passes
   count_is = lw.room.threads ∙ lw.script.threads ∙ ap (λ (l : Sizes). l.passes) layout
 
-  thread_allowed : (p : ℕ) → IsPass s.layout p → IsAllowedThread s.layout.quota p (changes_of w.told.log) (commands_of p s.lines) (answers_at w p)
+  thread_allowed : (p : ℕ) → IsPass s.layout p → IsAllowedThread s.layout.quota p (changes_of w.told.log) (commands_of p s.lines) (answers_at w.told.answers p)
   thread_allowed p is =
       let pass : IsPass w.layout p = subst (λ (l : Sizes). IsPass l p) (sym layout) is in
-      let r = pass_at w p in
       let cs = commands_at w.commands p in
       let t = lw.threads p pass in
-      let so = tells_allowed w.layout.quota p r.made r.seen r.registers cs (answers_at w p) w.told.log t.tells (over_is_answered w lw over p pass) in
+      let so = tells_allowed _ _ (answers_at w.told.answers p) w.told.log t.tells (over_is_answered kit by laws w lw over p pass) in
       let of : cs ≡ commands_of p s.lines = ap (λ (x : List (List Command)). commands_at x p) commands ∙ commands_at-commands_by s.layout.passes s.lines p is.0 is.1 in
-      let Q : ℕ → Type 0 = λ q. IsAllowedThread q p (changes_of w.told.log) (commands_of p s.lines) (answers_at w p) in
-      let C : List Command → Type 0 = λ x. IsAllowedThread w.layout.quota p (changes_of w.told.log) x (answers_at w p) in
+      let Q : ℕ → Type 0 = λ q. IsAllowedThread q p (changes_of w.told.log) (commands_of p s.lines) (answers_at w.told.answers p) in
+      let C : List Command → Type 0 = λ x. IsAllowedThread w.layout.quota p (changes_of w.told.log) x (answers_at w.told.answers p) in
       subst Q (ap (λ (l : Sizes). l.quota) layout) (subst C of so)
 
   -- where every party has ended, the answers are allowed for the changes
   pub over_allowed : IsAllowed s (changes_of w.told.log) w.told.answers
-  over_allowed = record {
-    passes = subst (λ (l : Sizes). All (λ c. IsPass l (pass_of c)) (changes_of w.told.log)) layout (All-changes_of (λ c. IsPass w.layout (pass_of c)) w.told.log lw.owners);
-    count = count_is;
-    threads = all_allowed s.layout.quota (changes_of w.told.log) s.lines 1 w.told.answers (λ i within.
-        let here : 1 + i - 1 ≡ i = omega arith in
-        subst (λ (k : ℕ). IsAllowedThread s.layout.quota (1 + i) (changes_of w.told.log) (commands_of (1 + i) s.lines) (get_or w.told.answers k [])) here
-        (thread_allowed (1 + i) (omega arith, omega (arith, within, count_is))));
-  }
+  over_allowed = log_allowed s w.told.log w.told.answers (subst (λ (l : Sizes). AreOfPasses l.passes w.told.log) layout lw.owners) count_is (λ p above below. thread_allowed p (above, below))

@@ -1,110 +1,120 @@
 -- Turns of the parties, one after another.
-use Rattle.std.proofs.Common.{◌≡◌, ◌≢◌, ℕ, zero, suc, ◌+◌, ◌-◌, ◌<◌, ◌≤◌, Bool, true, false, List, length, get_or, drop, Option, Some, None, cond, refl, sym, ap, ◌∙◌, not, arith, length-set, add-one, drop-cons}
+use Rattle.std.proofs.Common.{◌≡◌, ◌≢◌, ℕ, zero, suc, ◌+◌, ◌-◌, ◌<◌, ◌≤◌, Bool, true, false, List, length, get_or, drop, Option, Some, None, cond, refl, sym, ap, ◌∙◌, arith, add-one, drop-cons, length-set}
+use Rattle.std.proofs.lemmas.Bool.{ltb-false}
+use Rattle.std.proofs.lemmas.List.{get_or_default}
+use Rattle.lawful_records.specs.Collectors.{asks_of as collector_asks}
+use Rattle.heap_words.specs.Layouts.{IsPass}
 use Rattle.heap_script.specs.declared.script.Command.{Command}
-use Rattle.barriers.specs.declared.pass.PassRecord.{PassRecord}
 use Rattle.call_steps.specs.declared.step.Step.{Step}
+use Rattle.call_steps.specs.declared.step.Step.TheVariants as steps
+use Rattle.barriers.specs.declared.machine_end.MachineEnd.{MachineEnd}
+use Rattle.barriers.specs.declared.pass.PassRecord.{PassRecord}
+use Rattle.barriers.specs.Kits.{Kit, Stepping}
+use Rattle.barriers.specs.Records.{started, ended_of, with_end}
+use Rattle.gc_cycle.specs.declared.sequel.Sequel.{Sequel}
+use Rattle.gc_cycle.specs.declared.sequel.Sequel.TheVariants as sequel
 use Rattle.gc_cycle.specs.declared.world.Turn.{Turn}
 use Rattle.gc_cycle.specs.declared.world.Turn.TheVariants as turns
-use Rattle.gc_cycle.specs.declared.settling.Settled.{Settled}
-use Rattle.gc_cycle.specs.declared.settling.Settled.TheVariants as settled
-use Rattle.gc_cycle.specs.Settlings.{settled_of}
-use Rattle.gc_cycle.specs.Tellings.{changes_of}
-use Rattle.call_steps.specs.Steps.{applied, found_by}
-use Rattle.gc_cycle.specs.declared.collector.CollectorMachine.{CollectorMachine}
-use Rattle.gc_cycle.specs.declared.collector.CollectorMachine.TheVariants as collector
-use Rattle.gc_cycle.specs.Collectors.{awaits_behind}
-use Rattle.gc_cycle.specs.Collectors as collectors
-use Rattle.gc_cycle.specs.Worlds.{changes_now, State, pass_at, command_at, is_idle, is_done, is_collector, IsParty, can_step, collector_turn, pass_turn, turn_of, moved, stepped, fed, settled_at, taken_in, played, steps_in}
-use Rattle.heap_words.specs.Layouts.{IsPass}
-use Rattle.std.proofs.lemmas.Bool.{ltb-false}
+use Rattle.gc_cycle.specs.Sequels.{sequel_of}
+use Rattle.gc_cycle.specs.Worlds.{State, nobody, pass_at, asks_at, command_at, changes_now, face_of, is_ended, is_collector, IsParty, next_of, can_step, access_begun, followed_at, concluded_by, settled_by, stepped, taken, collected, turn_of, played, steps_in}
 use Rattle.gc_cycle.specs.Runs.{alone}
 
--- ---- what a turn leaves
+-- ---- a step
 
--- the layout and the number of passes
-pub record IsSameSize (w new : State) : Type 0 where
+pub is_ended-true : (step : Step) → is_ended step ≡ true → step ≡ steps.Ended
+is_ended-true (steps.Load at) e = absurd cc
+is_ended-true (steps.Store at put) e = absurd cc
+is_ended-true (steps.Exchange at want put) e = absurd cc
+is_ended-true (steps.Add at by) e = absurd cc
+is_ended-true (steps.Sub at by) e = absurd cc
+is_ended-true steps.Ended e = refl
+
+pub is_ended-false : (step : Step) → is_ended step ≡ false → step ≢ steps.Ended
+is_ended-false step e is = absurd (cc (e, is))
+
+-- ---- the record of a party
+
+-- the record that stands at its place is the party's
+pub stands_at : {R W E : Type 0} (w : State R W E) (party : ℕ) (passes : List (PassRecord R W E)) → passes ≡ w.passes → (x : PassRecord R W E) → x ≡ get_or passes (party - 1) x → 1 ≤ party → party ≤ length w.passes → x ≡ pass_at w party
+stands_at w party passes same x here least most =
+    here ∙ ap (λ (ps : List (PassRecord _ _ _)). get_or ps (party - 1) x) same ∙ get_or_default w.passes (party - 1) x nobody (omega (arith, least, most))
+
+-- ---- the script stays, and no party comes or goes
+
+pub record Stays {R W E : Type 0} (w new : State R W E) : Type 0 where
   pub layout : new.layout ≡ w.layout
+  pub commands : new.commands ≡ w.commands
   pub passes : length new.passes ≡ length w.passes
 
-taken_in-size : (w : State) (party : ℕ) (s : Settled) → IsSameSize w (taken_in w party s)
-taken_in-size w party (settled.Going p) = record { layout = refl; passes = length-set w.passes (party - 1) _ }
-taken_in-size w party (settled.Answered p answer call) = record { layout = refl; passes = length-set w.passes (party - 1) _ }
-taken_in-size w party (settled.Raced p) = record { layout = refl; passes = length-set w.passes (party - 1) _ }
+pub still : {R W E : Type 0} (w : State R W E) → Stays w w
+still w = record { layout = refl; commands = refl; passes = refl }
 
-settled_at-size : (w : State) (party : ℕ) (p : PassRecord) (command : Option Command) → IsSameSize w (settled_at w party p command)
-settled_at-size w party p None = record { layout = refl; passes = length-set w.passes (party - 1) _ }
-settled_at-size w party p (Some command) = taken_in-size w party (settled_of w.layout (length (changes_of w.told.log)) command p)
+pub later : {R W E : Type 0} (u v w : State R W E) → Stays u v → Stays v w → Stays u w
+later u v w first second = record { layout = second.layout ∙ first.layout; commands = second.commands ∙ first.commands; passes = second.passes ∙ first.passes }
 
-moved-size : (w : State) (party : ℕ) → IsSameSize w (moved w party)
-moved-size w party =
-    let m = (pass_at w party).machine in
-    let inner = settled_at-size (stepped w m) party (fed w (pass_at w party) m) (command_at w party) in
-    record { layout = inner.layout; passes = inner.passes }
+module _ {R W E M : Type 0} (kit : Kit R W E M) where
+  begun_stays : (w : State R W E) (party : ℕ) (p : PassRecord R W E) (next : Option (PassRecord R W E)) → Stays w (access_begun kit w party p next)
+  begun_stays w party p None = record { layout = refl; commands = refl; passes = length-set w.passes (party - 1) _ }
+  begun_stays w party p (Some next) = record { layout = refl; commands = refl; passes = length-set w.passes (party - 1) next }
 
-by_end : (ended : Bool) (w then : State) → IsSameSize w then → IsSameSize w (cond ended w then)
-by_end true w then same = record { layout = refl; passes = refl }
-by_end false w then same = same
+  followed_stays : (w : State R W E) (party : ℕ) (p : PassRecord R W E) (s : Sequel) → Stays w (followed_at kit w party p s)
+  followed_stays w party p sequel.Nothing = record { layout = refl; commands = refl; passes = length-set w.passes (party - 1) p }
+  followed_stays w party p (sequel.Starts request) = begun_stays w party p (started kit w.layout p request)
+  followed_stays w party p (sequel.Answered put answer ended) = record { layout = refl; commands = refl; passes = length-set w.passes (party - 1) _ }
+  followed_stays w party p (sequel.Retries why) = record { layout = refl; commands = refl; passes = length-set w.passes (party - 1) _ }
 
-by_party : (collects : Bool) (w one other : State) → IsSameSize w one → IsSameSize w other → IsSameSize w (cond collects one other)
-by_party true w one other first second = first
-by_party false w one other first second = second
+  concluded_stays : (w : State R W E) (party : ℕ) (p : PassRecord R W E) (end : MachineEnd) (command : Option Command) → Stays w (concluded_by kit w party p end command)
+  concluded_stays w party p end None = record { layout = refl; commands = refl; passes = length-set w.passes (party - 1) p }
+  concluded_stays w party p end (Some command) = followed_stays w party p (sequel_of (changes_now w) command (face_of p) end)
 
-pub turn_of-size : (w : State) (party : ℕ) → IsSameSize w (turn_of w party)
-turn_of-size w party =
-    by_party (is_collector w party) w (collector_turn w) (pass_turn w party) (record { layout = refl; passes = refl })
-    (by_end (is_idle (pass_at w party).machine) w (moved w party) (moved-size w party))
+  settled_stays : (w : State R W E) (party : ℕ) (end : Option MachineEnd) → Stays w (settled_by kit w party end)
+  settled_stays w party None = still w
+  settled_stays w party (Some end) = concluded_stays w party (with_end (pass_at w party) end) end (command_at w party)
 
--- ---- turns of one party
+module _ {R W E M : Type 0} (kit : Kit R W E M) (by : Stepping R W E M) where
+  taken_stays : (w : State R W E) (party : ℕ) → Stays w (taken kit by w party)
+  taken_stays w party =
+      let next = stepped kit by w party in
+      let first : Stays w next = record { layout = refl; commands = refl; passes = length-set w.passes (party - 1) _ } in
+      later w next _ first (settled_stays kit next party (let p = pass_at next party in ended_of kit p.machine))
 
--- one turn more
-pub alone-more : (n party : ℕ) (w : State) → alone (n + 1) party w ≡ turn_of (alone n party w) party
-alone-more n party w = rw add-one (go n w)
-  where
-    go : (n : ℕ) (w : State) → alone (suc n) party w ≡ turn_of (alone n party w) party
-    go zero w = refl
-    go (suc n) w = go n (turn_of w party)
+  by_choice : (can collects : Bool) (w one other : State R W E) → Stays w one → Stays w other → Stays w (cond can (cond collects one other) w)
+  by_choice true true w one other first second = first
+  by_choice true false w one other first second = second
+  by_choice false collects w one other first second = still w
 
--- ---- a turn that takes a step, and one that takes none
+  pub turn_stays : (w : State R W E) (party : ℕ) → Stays w (turn_of kit by w party)
+  turn_stays w party =
+      let collects : Stays w (collected kit by w) = record { layout = refl; commands = refl; passes = refl } in
+      by_choice (can_step kit by w party) (is_collector kit by w party) w (collected kit by w) (taken kit by w party) collects (taken_stays w party)
 
--- a party that can not step leaves the world
-rests : (w : State) (party : ℕ) (collects idle : Bool) (k : CollectorMachine) → w.collector ≡ k → not (cond collects (is_done k) idle) ≡ false → cond collects (collector_turn w) (cond idle w (moved w party)) ≡ w
-rests w party true idle (collector.Announce s) e no_step = absurd cc
-rests w party true idle (collector.Await s pass m) e no_step = absurd cc
-rests w party true idle (collector.Done s) e no_step = ap (λ (k : CollectorMachine). record w { words = applied (collectors.asks_of k) w.words; collector = collectors.fed_of k (found_by (collectors.asks_of k) w.words); awaited = awaits_behind k (collectors.fed_of k (found_by (collectors.asks_of k) w.words)) (changes_now w) w.awaited }) e ∙ ap (λ (k : CollectorMachine). record w { collector = k }) (sym e)
-rests w party false true k e no_step = refl
-rests w party false false k e no_step = absurd cc
+  -- ---- a turn that takes a step, and one that takes none
 
-pub turn_of-rests : (w : State) (party : ℕ) → can_step w party ≡ false → turn_of w party ≡ w
-turn_of-rests w party no_step = rests w party (is_collector w party) (is_idle (pass_at w party).machine) w.collector refl no_step
+  -- a party whose next step is none leaves the world
+  pub turn_of-rests : (w : State R W E) (party : ℕ) (step : Step) (tested : Bool) → step ≡ next_of kit by w party → tested ≡ is_ended step → tested ≡ true → turn_of kit by w party ≡ w
+  turn_of-rests w party step tested next test ended =
+      let e : is_ended (next_of kit by w party) ≡ true = ap is_ended (sym next) ∙ (sym test ∙ ended) in
+      rw e refl
 
--- the collector's step, and that of a thread that has not ended
-pub turn_of-collects : (w : State) (party : ℕ) → is_collector w party ≡ true → turn_of w party ≡ collector_turn w
-turn_of-collects w party collects = rw collects refl
+  -- the next step of a thread, and of the collector
+  pub asks_by : (w : State R W E) (party : ℕ) (step : Step) → step ≡ next_of kit by w party → is_collector kit by w party ≡ false → step ≡ asks_at kit by w party
+  asks_by w party step next passes = next ∙ (rw passes refl)
 
-by_step : (collects idle done : Bool) → collects ≡ false → not (cond collects done idle) ≡ true → idle ≡ false
-by_step true idle done e can = absurd cc
-by_step false true done e can = absurd cc
-by_step false false done e can = refl
+  pub collects_by : (w : State R W E) (party : ℕ) (step : Step) → step ≡ next_of kit by w party → is_collector kit by w party ≡ true → step ≡ collector_asks w.collector
+  collects_by w party step next collects = next ∙ (rw collects refl)
 
--- what a party that can step is: a thread that has not ended, or the collector that has cycles to play
-pub party_is_pass : (w : State) (party : ℕ) → IsParty w.layout party → is_collector w party ≡ false → IsPass w.layout party
-party_is_pass w party is passes = (is.0, ltb-false w.layout.passes party passes)
+  pub party_is_pass : (w : State R W E) (party : ℕ) → IsParty w.layout party → is_collector kit by w party ≡ false → IsPass w.layout party
+  party_is_pass w party is passes = (is.0, ltb-false w.layout.passes party passes)
 
-pub is_running : (w : State) (party : ℕ) → is_collector w party ≡ false → can_step w party ≡ true → is_idle (pass_at w party).machine ≡ false
-is_running w party passes can = by_step (is_collector w party) (is_idle (pass_at w party).machine) (is_done w.collector) passes can
+  -- ---- turns of one party
 
-pub turn_of-moves : (w : State) (party : ℕ) → is_collector w party ≡ false → can_step w party ≡ true → turn_of w party ≡ moved w party
-turn_of-moves w party passes can =
-    let on = is_running w party passes can in
-    rw passes (rw on refl)
-
-by_play : (collects idle done : Bool) → collects ≡ true → not (cond collects done idle) ≡ true → done ≡ false
-by_play true idle true e can = absurd cc
-by_play true idle false e can = refl
-by_play false idle done e can = absurd cc
-
-pub is_playing : (w : State) (party : ℕ) → is_collector w party ≡ true → can_step w party ≡ true → is_done w.collector ≡ false
-is_playing w party collects can = by_play (is_collector w party) (is_idle (pass_at w party).machine) (is_done w.collector) collects can
+  -- one turn more
+  pub alone-more : (n party : ℕ) (w : State R W E) → alone kit by (n + 1) party w ≡ turn_of kit by (alone kit by n party w) party
+  alone-more n party w = rw add-one (go n w)
+    where
+      go : (n : ℕ) (w : State R W E) → alone kit by (suc n) party w ≡ turn_of kit by (alone kit by n party w) party
+      go zero w = refl
+      go (suc n) w = go n (turn_of kit by w party)
 
 -- ---- turns in an order
 
@@ -116,14 +126,15 @@ pub count_of-most : (can : Bool) → count_of can ≤ 1
 count_of-most true = omega arith
 count_of-most false = omega arith
 
--- what a turn of the next party leaves of the turns that are left
-pub played-next : (w : State) (parties : List ℕ) (i party : ℕ) → i < length parties → get_or parties i 0 ≡ party
-    → played (turn_of w party) (drop (i + 1) parties) ≡ played w (drop i parties)
-played-next w parties i party within is = rw (add-one, drop-cons parties i 0 within, is) refl
+module _ {R W E M : Type 0} (kit : Kit R W E M) (by : Stepping R W E M) where
+  -- what a turn of the next party leaves of the turns that are left
+  pub played-next : (w : State R W E) (parties : List ℕ) (i party : ℕ) → i < length parties → get_or parties i 0 ≡ party
+      → played kit by (turn_of kit by w party) (drop (i + 1) parties) ≡ played kit by w (drop i parties)
+  played-next w parties i party within is = rw (add-one, drop-cons parties i 0 within, is) refl
 
-pub steps_in-next : (w : State) (parties : List ℕ) (i party : ℕ) → i < length parties → get_or parties i 0 ≡ party
-    → steps_in w (drop i parties) ≡ count_of (can_step w party) + steps_in (turn_of w party) (drop (i + 1) parties)
-steps_in-next w parties i party within is = rw (add-one, drop-cons parties i 0 within, is) refl
+  pub steps_in-next : (w : State R W E) (parties : List ℕ) (i party : ℕ) → i < length parties → get_or parties i 0 ≡ party
+      → steps_in kit by w (drop i parties) ≡ count_of (can_step kit by w party) + steps_in kit by (turn_of kit by w party) (drop (i + 1) parties)
+  steps_in-next w parties i party within is = rw (add-one, drop-cons parties i 0 within, is) refl
 
 -- what a turn without a step says
 rest_is : (waits : Bool) (found : Step) → cond waits turns.Idle turns.Ended ≡ turns.Took found → ⊥

@@ -1,74 +1,73 @@
 -- What a lawful world shows.
-use Rattle.std.proofs.Common.{◌≡◌, ◌≢◌, ◌-◌, ◌≤◌, ◌⊎◌, ◌↔◌, ℕ, List, get_or, true, arith, refl, subst, sym, ap, ◌∙◌}
-use Rattle.heap_words.specs.Layouts.{IsPass, ack_at}
-use Rattle.call_steps.specs.StepLaws.{reading}
-use Rattle.handshakes.specs.PhaseWords.{retired_word}
+use Rattle.std.specs.List.{All}
+use Rattle.std.specs.Prelude.{sum_by}
+use Rattle.std.proofs.Common.{◌≡◌, ℕ, zero, suc, ◌+◌, ◌-◌, ◌≤◌, List, [], ◌∷◌, length, get_or, arith, subst, sym, ap, ◌∙◌}
 use Rattle.std.proofs.lemmas.List.{get_or_default}
-use Rattle.barriers.specs.declared.pass.PassRecord.{PassRecord}
-use Rattle.barriers.specs.declared.pass.PassMachine.{PassMachine}
-use Rattle.barriers.specs.declared.pass.PassMachine.TheVariants as machine
-use Rattle.gc_cycle.specs.Collectors.{announced_of, before_of, passed_of}
-use Rattle.gc_cycle.proofs.Handshakes.{running_answers, passed_answers}
+use Rattle.std.proofs.lemmas.List.Sums.{sum_by-cons}
+use Rattle.heap_words.specs.Layouts.{IsPass}
 use Rattle.heap_history.specs.declared.call.Entry.{Entry}
 use Rattle.heap_history.specs.FixedHeaps.{opening}
-use Rattle.heap_history.specs.Histories.{IsAccepted, changes}
-use Rattle.gc_cycle.specs.Commands.{commands_at}
-use Rattle.gc_cycle.specs.Worlds.{State, nobody, pass_at, answers_at, is_idle}
-use Rattle.gc_cycle.specs.Lawful.{Lawful, IsAcked, acked_of, made_of}
-use Rattle.gc_cycle.specs.Arranged.{shown}
-use Rattle.gc_cycle.specs.Runs.{ShowsThread, Shows}
-use Rattle.gc_cycle.proofs.Heard.{changes-shown, heard_accepted, heard_placed, heard_legal, tells_shown}
+use Rattle.heap_history.specs.declared.call.Call.{Call}
+use Rattle.heap_history.specs.Histories.{IsAccepted, IsLegal, changes}
+use Rattle.heap_history.specs.Logs.{passes_of}
+use Rattle.heap_history.specs.Arranged.{arranged, shown}
+use Rattle.heap_history.specs.ShownLaws.{shown_legal, changes-shown, accepted-shown, placed-arranged}
+use Rattle.heap_script.specs.declared.answer.Answer.{Answer}
+use Rattle.heap_script.specs.Allowed.{IsAllowed}
+use Rattle.heap_script.specs.TellingSteps.{answers_at}
+use Rattle.heap_script.specs.TellsLaws.{tells_shown}
+use Rattle.barriers.specs.declared.pass.PassRecord.{PassRecord}
+use Rattle.barriers.specs.Kits.{Kit, Stepping, Laws}
+use Rattle.gc_cycle.specs.Worlds.{State, pass_at}
+use Rattle.gc_cycle.specs.Lawful.{Lawful}
+use Rattle.gc_cycle.specs.Shows.{ShowsThread, Shows}
+use Rattle.gc_cycle.proofs.Playing.{stands_at}
+use Rattle.gc_cycle.proofs.AllowedAnswers.{over_allowed}
+use Rattle.gc_cycle.proofs.Acknowledging.{IsAcknowledged, acknowledged}
 
-shows_thread : (w : State) → Lawful w → (party : ℕ) → IsPass w.layout party → ShowsThread w party
-shows_thread w lw party is = let tells = (lw.threads party is).tells in record {
-  fronts = tells.fronts;
-  seat = tells.seat;
-  run = tells.run;
-  calls = tells_shown w.layout.quota party (pass_at w party).made (pass_at w party).seen (pass_at w party).registers (commands_at w.commands party) (answers_at w party) w.told.log lw.told tells;
-}
+-- one of the lists is no longer than all of them together
+length_at : {X : Type 0} (xs : List (List X)) (i : ℕ) → length (get_or xs i []) ≤ sum_by length xs
+length_at [] i = omega arith
+length_at (x ∷ xs) zero = omega (arith, sum_by-cons length x xs)
+length_at (x ∷ xs) (suc i) = omega (arith, sum_by-cons length x xs, length_at xs i)
 
--- its calls, arranged
-pub shows_of : (w : State) → Lawful w → (entries : List Entry) → entries ≡ shown w.told.log → Shows w entries
-shows_of w lw entries is = record {
-  entries_are = is;
-  accepted = subst (IsAccepted opening) (sym is) (heard_accepted w.told.log lw.told);
-  changes_are = ap changes is ∙ changes-shown w.told.log lw.told;
-  placed = heard_placed w.told.log lw.told;
-  legal = heard_legal w.layout.quota w.layout.passes (made_of w) (λ p. (pass_at w p).seen) (λ p. (pass_at w p).registers) (commands_at w.commands) (answers_at w) w.told.log lw.told lw.owners
-      (λ p above below. (lw.threads p (above, below)).tells);
-  owners = lw.owners;
-  threads = shows_thread w lw;
-}
+module _ {R W E M : Type 0} (kit : Kit R W E M) where
+  shows_thread : (w : State R W E) → Lawful kit w → (party : ℕ) → IsPass w.layout party → ShowsThread w party
+  shows_thread w lw party is = let thread = lw.threads party is in let tells = thread.tells in record {
+    fronts = tells.fronts;
+    seat = tells.seat;
+    run = tells.run;
+    calls = tells_shown _ _ (answers_at w.told.answers party) w.told.log tells;
+  }
 
--- ---- acknowledgements
+  -- no thread has more answers than a script has commands
+  few_answers : (w : State R W E) → Lawful kit w → All (λ (answers : List Answer). length answers ≤ 65536) w.told.answers
+  few_answers w lw k d within =
+      let is : IsPass w.layout (k + 1) = (omega arith, omega (arith, within, lw.room.threads, lw.script.threads)) in
+      let thread = lw.threads (k + 1) is in
+      let back : k + 1 - 1 ≡ k = omega arith in
+      let at : get_or w.told.answers k d ≡ answers_at w.told.answers (k + 1) = get_or_default w.told.answers k d [] within ∙ ap (λ i. get_or w.told.answers i []) (sym back) in
+      omega (arith, ap length at, thread.fit, length_at w.commands (k + 1 - 1), lw.script.few)
 
--- Retired is acknowledged exactly where a pass is in no machine
-retired_exactly : (k : PassMachine) (acked : ℕ) → IsAcked k acked → (acked ≡ retired_word) ↔ (is_idle k ≡ true)
-retired_exactly machine.Idle acked is = (λ e. refl, λ e. is)
-retired_exactly (machine.Poll m) acked is = (λ e. absurd (is e), λ e. cc)
-retired_exactly (machine.New m) acked is = (λ e. absurd (is e), λ e. cc)
-retired_exactly (machine.Read m) acked is = (λ e. absurd (is e), λ e. cc)
-retired_exactly (machine.Write m) acked is = (λ e. absurd (is e), λ e. cc)
-retired_exactly (machine.Exchange m) acked is = (λ e. absurd (is e), λ e. cc)
-retired_exactly (machine.Retire m) acked is = (λ e. absurd (is e), λ e. cc)
+  -- the record that stands at its place is the thread's
+  pub acknowledged_by : (w : State R W E) → Lawful kit w → (thread : ℕ) → IsPass w.layout thread → (passes : List (PassRecord R W E)) → passes ≡ w.passes → (x : PassRecord R W E) → x ≡ get_or passes (thread - 1) x
+      → IsAcknowledged w thread (let view = x.view in view.acked)
+  acknowledged_by w lw thread is passes same x here =
+      let at : x ≡ pass_at w thread = stands_at w thread passes same x here is.0 (omega (arith, lw.passes, is.1)) in
+      subst (λ (y : PassRecord R W E). IsAcknowledged w thread (let view = y.view in view.acked)) (sym at) (acknowledged kit w lw thread is)
 
--- what holds of the acknowledgement of a thread
-pub record IsAcknowledged (w : State) (thread word : ℕ) : Type 0 where
-  pub word_is : word ≡ reading w.words (ack_at thread)
-  pub retired : (word ≡ retired_word) ↔ (is_idle (pass_at w thread).machine ≡ true)
-  pub running : word ≢ retired_word → (word ≡ announced_of w.collector) ⊎ (word ≡ before_of w.collector)
-  pub passed : word ≢ retired_word → thread ≤ passed_of w.collector → word ≡ announced_of w.collector
-
-pub acknowledged : (w : State) → Lawful w → (thread : ℕ) → IsPass w.layout thread → IsAcknowledged w thread (pass_at w thread).view.acked
-acknowledged w lw thread is = record {
-  word_is = sym (lw.handshake.shows.acks thread is);
-  retired = retired_exactly (pass_at w thread).machine (pass_at w thread).view.acked (lw.threads thread is).acked;
-  running = λ runs. running_answers w.layout w.collector (acked_of w) lw.handshake.keeps thread is runs;
-  passed = λ runs within. passed_answers w.layout w.collector (acked_of w) lw.handshake.keeps thread is runs within;
-}
-
--- the record that stands at its place is the thread's
-pub acknowledged_by : (w : State) → Lawful w → (thread : ℕ) → IsPass w.layout thread → (passes : List PassRecord) → passes ≡ w.passes → (x : PassRecord) → x ≡ get_or passes (thread - 1) x → IsAcknowledged w thread x.view.acked
-acknowledged_by w lw thread is passes same x here =
-    let at : x ≡ pass_at w thread = here ∙ ap (λ (ps : List PassRecord). get_or ps (thread - 1) x) same ∙ get_or_default w.passes (thread - 1) x nobody (omega (arith, lw.passes, is.0, is.1)) in
-    subst (λ (y : PassRecord). IsAcknowledged w thread y.view.acked) (sym at) (acknowledged w lw thread is)
+module _ {R W E M : Type 0} (kit : Kit R W E M) (by : Stepping R W E M) (laws : Laws kit by) where
+  -- its calls, arranged
+  pub shows_of : (w : State R W E) → Lawful kit w → (entries : List Entry) → entries ≡ shown w.told.log → Shows kit by w entries
+  shows_of w lw entries is =
+      let changed = ap changes is ∙ changes-shown w.told.log lw.log in record {
+        entries_are = is;
+        accepted = subst (IsAccepted opening) (sym is) (accepted-shown w.told.log lw.log);
+        changes_are = changed;
+        placed = placed-arranged w.told.log lw.log;
+        legal = subst (λ (h : List Call). IsLegal h (passes_of w.layout.passes 1 (arranged w.told.log))) (sym (ap changes is)) (shown_legal w.layout.passes w.told.log lw.log lw.owners);
+        owners = lw.owners;
+        threads = shows_thread kit w lw;
+        allowed = λ script plays over. subst (λ (h : List Call). IsAllowed script h w.told.answers) (sym changed) (over_allowed kit by laws script w lw over plays.layout plays.commands);
+        few = few_answers kit w lw;
+      }

@@ -1,13 +1,7 @@
-pub mod Arranged
-pub mod Collectors
-pub mod Commands
-pub mod Handshakes
 pub mod Lawful
-pub mod Objects
-pub mod Ready
 pub mod Runs
 pub mod Schedules
-pub mod Settlings
-pub mod TellingSteps
-pub mod Tellings
+pub mod Sequels
+pub mod Shows
+pub mod Steppings
 pub mod Worlds

@@ -1,47 +1,60 @@
--- Some passes and the collector, and the words on which they step.
+-- A world: some passes over any copier, which play the commands of a script, the collector, and the words on which they step.
 use Rattle.std.specs.Prelude.{◌≢◌, ◌&&◌, not, ℕ, ◌+◌, ◌-◌, ◌<◌, ◌≤◌, ◌^◌, Bool, true, false, nat_lt, if◌then◌else◌, List, [], ◌∷◌, ◌++◌, length, replicate, Option, Some, None, slice_get, slice_set, slice_index_or}
+use Rattle.std.specs.List.{list_all}
+use Rattle.std.specs.Option.{ForSome}
 use Rattle.heap_words.specs.Layouts.{Sizes, words_of, region_at, first_word}
 use Rattle.heap_words.specs.declared.field_word.FieldWord.{FieldWord}
 use Rattle.heap_words.specs.declared.field_word.FieldWord.TheVariants.{Num, Link}
+use Rattle.heap_words.specs.FieldWords.{IsFieldWord}
 use Rattle.object_headers.specs.Headers.{word_of_header}
 use Rattle.space_reclaim.specs.declared.region_word.RegionWord.TheVariants.{Filled}
 use Rattle.space_reclaim.specs.RegionWords.{word_of_region}
 use Rattle.call_steps.specs.declared.step.Step.{Step}
 use Rattle.call_steps.specs.declared.step.Step.TheVariants.{Ended}
 use Rattle.call_steps.specs.Steps.{applied, found_by, IsInside}
-use Rattle.std.specs.List.{list_all}
-use Rattle.std.specs.Option.{ForSome}
 use Rattle.heap_history.specs.declared.call.Ended as calls
+use Rattle.heap_history.specs.Logs.{changes_of}
 use Rattle.heap_script.specs.declared.script.Command.{Command}
 use Rattle.heap_script.specs.declared.answer.Answer.{Answer}
+use Rattle.heap_script.specs.declared.answer.Answer.TheVariants as answers
 use Rattle.heap_script.specs.Scripts.{Reading, CommandFits}
-use Rattle.barriers.specs.NewObjects.{new_header}
+use Rattle.heap_script.specs.Commands.{commands_by, commands_at, before}
+use Rattle.heap_script.specs.Tellings.{Telling}
+use Rattle.heap_script.specs.TellingSteps.{with_refusal, with_answer, answers_at, room_at, opening_telling}
+use Rattle.barriers.specs.declared.front.Front.{Front}
+use Rattle.barriers.specs.declared.front.Front.TheVariants.{Stays, Now, SealedOrNow}
+use Rattle.barriers.specs.declared.machine_end.MachineEnd.{MachineEnd}
+use Rattle.barriers.specs.declared.machine_end.MachineEnd.TheVariants as ends
+use Rattle.barriers.specs.declared.ends.NewEnd.TheVariants as new_end
+use Rattle.barriers.specs.declared.ends.ReadEnd.TheVariants as read_end
+use Rattle.barriers.specs.declared.ends.ExchangeEnd.TheVariants as exchange_end
+use Rattle.barriers.specs.declared.machine_end.Request.{Request}
+use Rattle.barriers.specs.declared.machine_end.Request.TheVariants as requests
 use Rattle.barriers.specs.declared.pass.PassRecord.{PassRecord}
-use Rattle.barriers.specs.declared.pass.PassMachine.{PassMachine}
 use Rattle.barriers.specs.declared.pass.PassMachine.TheVariants as machine
-use Rattle.barriers.specs.PassMachines.{asks_of, fed_of, sees}
-use Rattle.gc_cycle.specs.declared.collector.Awaited.{Awaited}
-use Rattle.gc_cycle.specs.declared.collector.CollectorMachine.{CollectorMachine}
-use Rattle.gc_cycle.specs.declared.collector.CollectorMachine.TheVariants as collector
-use Rattle.gc_cycle.specs.Collectors.{collector_of, none_awaited, awaits_behind}
-use Rattle.gc_cycle.specs.Collectors as collectors
-use Rattle.gc_cycle.specs.declared.settling.Settled.{Settled}
-use Rattle.gc_cycle.specs.declared.settling.Settled.TheVariants as settled
+use Rattle.barriers.specs.PassMachines as passes
+use Rattle.barriers.specs.NewObjects.{new_header}
+use Rattle.barriers.specs.Kits.{Kit, Stepping}
+use Rattle.barriers.specs.Records.{IsReady, HasBirths, Fits, with_end, ended_of, started}
+use Rattle.lawful_records.specs.declared.collector.Awaited.{Awaited}
+use Rattle.lawful_records.specs.declared.collector.CollectorMachine.{CollectorMachine}
+use Rattle.lawful_records.specs.Collectors.{collector_of, none_awaited, awaits_behind}
+use Rattle.lawful_records.specs.Collectors as collectors
+use Rattle.gc_cycle.specs.declared.sequel.Face.{Face}
+use Rattle.gc_cycle.specs.declared.sequel.InRegister.{InRegister}
+use Rattle.gc_cycle.specs.declared.sequel.Sequel.{Sequel}
+use Rattle.gc_cycle.specs.declared.sequel.Sequel.TheVariants as sequel
 use Rattle.gc_cycle.specs.declared.world.Turn.{Turn}
 use Rattle.gc_cycle.specs.declared.world.Turn.TheVariants as turns
-use Rattle.gc_cycle.specs.Settlings.{settled_of, poll_before, retirement, rested}
-use Rattle.gc_cycle.specs.Commands.{commands_by, commands_at, before}
-use Rattle.gc_cycle.specs.Tellings.{Telling, changes_of}
-use Rattle.gc_cycle.specs.TellingSteps.{with_raised, with_answer, room_at, opening_telling}
-use Rattle.gc_cycle.specs.Ready.{IsReady, HasPolled}
+use Rattle.gc_cycle.specs.Sequels.{sequel_of}
 
--- the layout, the commands of each thread, the words, the records of the passes in rising number, the collector and how many changes there were
--- when its awaits ended, and what there is to tell
-pub record State : Type 0 where
+-- the layout, the commands of each thread, the words, the records of the passes in rising number, the collector and how many changes there
+-- were when its awaits ended, and what there is to tell
+pub record State (R W E : Type 0) : Type 0 where
   pub layout : Sizes
   pub commands : List (List Command)
   pub words : List ℕ
-  pub passes : List PassRecord
+  pub passes : List (PassRecord R W E)
   pub collector : CollectorMachine
   pub awaited : Awaited
   pub told : Telling
@@ -49,7 +62,7 @@ pub record State : Type 0 where
 -- ---- one party
 
 -- a record that is nobody's
-abbrev pub nobody : PassRecord
+abbrev pub nobody : {R W E : Type 0} → PassRecord R W E
 nobody = record {
   view = record { pass = 0; acked = 0; mark = 0 };
   registers = [];
@@ -59,154 +72,187 @@ nobody = record {
   seen = 0;
 }
 
--- parties count from 1
-abbrev pub pass_at : State → ℕ → PassRecord
-pass_at w party = slice_index_or w.passes (party - 1) nobody
+-- the word fits the register
+abbrev pub PutFits : Option InRegister → Type 0
+PutFits None = Unit {0}
+PutFits (Some put) = (put.register < 8) × IsFieldWord put.word
 
-abbrev pub answers_at : State → ℕ → List Answer
-answers_at w party = slice_index_or w.told.answers (party - 1) []
+module _ {R W E : Type 0} where
+  -- parties count from 1
+  abbrev pub pass_at : State R W E → ℕ → PassRecord R W E
+  pass_at w party = slice_index_or w.passes (party - 1) nobody
 
--- how many of its commands are answered
-abbrev pub answered : State → ℕ → ℕ
-answered w party = length (answers_at w party)
+  -- how many of its commands are answered
+  abbrev pub answered : State R W E → ℕ → ℕ
+  answered w party = length (answers_at w.told.answers party)
 
--- the command that it is at, if one is left
-abbrev pub command_at : State → ℕ → Option Command
-command_at w party = slice_get (commands_at w.commands party) (answered w party)
+  -- the command that it is at, if one is left
+  abbrev pub command_at : State R W E → ℕ → Option Command
+  command_at w party = slice_get (commands_at w.commands party) (answered w party)
 
--- ---- what follows from a step without a further step
+  -- how many changes there are
+  abbrev pub changes_now : State R W E → ℕ
+  changes_now w = length (changes_of w.told.log)
 
-abbrev pub with_pass : State → ℕ → PassRecord → State
-with_pass w party p = record w { passes = slice_set w.passes (party - 1) p }
+  -- the place of the command that a party is at, among the commands of all
+  abbrev pub place_of_command : State R W E → ℕ → ℕ
+  place_of_command w party = before w.commands party + answered w party
 
--- the machine behind so many of a thread's commands: the poll before the next one, or the retirement behind the last
-abbrev pub machine_behind : Sizes → List Command → ℕ → PassRecord → PassMachine
-machine_behind l commands count p = if nat_lt count (length commands) then poll_before p else retirement l p
+  abbrev pub put_pass : State R W E → ℕ → PassRecord R W E → State R W E
+  put_pass w party p = record w { passes = slice_set w.passes (party - 1) p }
+
+  -- what a thread does after so many of its commands: the poll before the next one, or the retirement after the last
+  abbrev pub next_request : State R W E → ℕ → ℕ → Request
+  next_request w party count = if nat_lt count (length (commands_at w.commands party)) then requests.Poll else requests.Retire
+
+  -- ---- what a script reads of a record, and puts in it
+
+  abbrev pub face_of : PassRecord R W E → Face
+  face_of p = record { pass = (let view = p.view in view.pass); registers = p.registers; seen = p.seen }
+
+  abbrev pub with_put : PassRecord R W E → Option InRegister → PassRecord R W E
+  with_put p None = p
+  with_put p (Some put) = record p { registers = slice_set p.registers put.register put.word }
+
+  -- the record that has seen what an ended call has
+  abbrev pub in_front : PassRecord R W E → Option calls.Ended → PassRecord R W E
+  in_front p None = p
+  in_front p (Some e) = record p { seen = e.front }
 
 -- one more call has ended, if there is one
 abbrev pub logged : List calls.Ended → Option calls.Ended → List calls.Ended
 logged log None = log
 logged log (Some e) = log ++ e ∷ []
 
--- the command is answered, and the pass goes on to its next one
-abbrev pub concluded : State → ℕ → PassRecord → Answer → Option calls.Ended → State
-concluded w party p answer call = record w {
-  passes = slice_set w.passes (party - 1) (record p { machine = machine_behind w.layout (commands_at w.commands party) (answered w party + 1) p });
-  told = record w.told {
-    answers = with_answer w.told.answers party answer;
-    log = logged w.told.log call;
-  };
-}
+-- what was seen after a step with this front; nothing is sealed yet
+abbrev pub seen_with : Front → ℕ → ℕ → ℕ
+seen_with Stays changes seen = seen
+seen_with Now changes seen = changes
+seen_with SealedOrNow changes seen = changes
 
--- the place of the command that a party is at, among the commands of all
-abbrev pub place_of_command : State → ℕ → ℕ
-place_of_command w party = before w.commands party + answered w party
+abbrev pub or_else : {A : Type 0} → Option A → A → A
+or_else None a = a
+or_else (Some b) a = b
 
-abbrev pub taken_in : State → ℕ → Settled → State
-taken_in w party (settled.Going p) = with_pass w party p
-taken_in w party (settled.Answered p answer call) = concluded w party p answer call
-taken_in w party (settled.Raced p) = record (with_pass w party p) {
-  told = record w.told { agains = with_raised w.told.agains (place_of_command w party) };
-}
+-- a machine that asks for this takes no step
+abbrev pub is_ended : Step → Bool
+is_ended Ended = true
+is_ended step = false
 
--- at the command that the party is at, and behind the last one
-abbrev pub settled_at : State → ℕ → PassRecord → Option Command → State
-settled_at w party p None = with_pass w party (rested p)
-settled_at w party p (Some command) = taken_in w party (settled_of w.layout (length (changes_of w.told.log)) command p)
+-- ---- a turn of a thread
 
--- ---- a turn
+module _ {R W E M : Type 0} (kit : Kit R W E M) where
+  -- the pass begins the machine that does what is asked, if the register leads to an object
+  abbrev pub begun_at : State R W E → ℕ → PassRecord R W E → Request → State R W E
+  begun_at w party p request = put_pass w party (or_else (started kit w.layout p request) p)
 
--- the words after the step that a machine asks for
-abbrev pub stepped : State → PassMachine → State
-stepped w m = record w { words = applied (asks_of m) w.words }
+  -- the command is answered, and the pass goes on to its next one
+  abbrev pub answered_with : State R W E → ℕ → PassRecord R W E → Answer → Option calls.Ended → State R W E
+  answered_with w party p answer call = begun_at (record w {
+    told = record w.told { answers = with_answer w.told.answers party answer; log = logged w.told.log call };
+  }) party p (next_request w party (answered w party + 1))
 
--- how many changes there are
-abbrev pub changes_now : State → ℕ
-changes_now w = length (changes_of w.told.log)
+  -- a command begins, or is answered as one that leads to no object
+  abbrev pub access_begun : State R W E → ℕ → PassRecord R W E → Option (PassRecord R W E) → State R W E
+  access_begun w party p None = answered_with w party p answers.NotLink None
+  access_begun w party p (Some next) = put_pass w party next
 
--- the record when this machine of it was fed a word: where the step sees a value, the pass has seen all changes that there are
-abbrev pub fed_with : ℕ → ℕ → PassRecord → PassMachine → PassRecord
-fed_with changes found p m = record p { machine = fed_of m found; seen = if sees m found then changes else p.seen }
+  abbrev pub followed_at : State R W E → ℕ → PassRecord R W E → Sequel → State R W E
+  followed_at w party p sequel.Nothing = put_pass w party p
+  followed_at w party p (sequel.Starts request) = access_begun w party p (started kit w.layout p request)
+  followed_at w party p (sequel.Answered put answer ended) = answered_with w party (in_front (with_put p put) ended) answer ended
+  followed_at w party p (sequel.Retries why) = begun_at (record w {
+    told = record w.told { agains = with_refusal w.told.agains (place_of_command w party) why };
+  }) party p requests.Poll
 
--- the record when this machine of it was fed the word that its step found
-abbrev pub fed : State → PassRecord → PassMachine → PassRecord
-fed w p m = fed_with (changes_now w) (found_by (asks_of m) w.words) p m
+  -- at the command that it is at, and after the last one
+  abbrev pub concluded_by : State R W E → ℕ → PassRecord R W E → MachineEnd → Option Command → State R W E
+  concluded_by w party p end None = put_pass w party p
+  concluded_by w party p end (Some command) = followed_at w party p (sequel_of (changes_now w) command (face_of p) end)
 
--- a party, which is in this machine, takes the machine's next step
-abbrev pub moved_by : State → ℕ → PassMachine → State
-moved_by w party m = settled_at (stepped w m) party (fed w (pass_at w party) m) (command_at w party)
+  -- its machine has ended so
+  abbrev pub concluded_at : State R W E → ℕ → MachineEnd → State R W E
+  concluded_at w party end = concluded_by w party (with_end (pass_at w party) end) end (command_at w party)
 
-abbrev pub moved : State → ℕ → State
-moved w party = moved_by w party (pass_at w party).machine
+  abbrev pub settled_by : State R W E → ℕ → Option MachineEnd → State R W E
+  settled_by w party None = w
+  settled_by w party (Some end) = concluded_at w party end
 
-abbrev pub is_idle : PassMachine → Bool
-is_idle machine.Idle = true
-is_idle _ = false
+  -- what follows from its step without a further step
+  abbrev pub settled_at : State R W E → ℕ → State R W E
+  settled_at w party = let p = pass_at w party in settled_by w party (ended_of kit p.machine)
 
--- the world after a turn of a thread: one that has ended takes no step
-abbrev pub pass_turn : State → ℕ → State
-pass_turn w party = if is_idle (pass_at w party).machine then w else moved w party
+module _ {R W E M : Type 0} (kit : Kit R W E M) (by : Stepping R W E M) where
+  abbrev pub asks_at : State R W E → ℕ → Step
+  asks_at w party = let p = pass_at w party in passes.asks_of by.read_asks by.write_asks by.exchange_asks p.machine
 
--- the collector after its next step
-abbrev pub collector_after : State → CollectorMachine
-collector_after w = collectors.fed_of w.collector (found_by (collectors.asks_of w.collector) w.words)
+  -- the word that its step finds
+  abbrev pub found_at : State R W E → ℕ → ℕ
+  found_at w party = found_by (asks_at w party) w.words
 
--- the world after a turn of the collector: one that has played its cycles takes no step
-abbrev pub collector_turn : State → State
-collector_turn w = record w {
-  words = applied (collectors.asks_of w.collector) w.words;
-  collector = collector_after w;
-  awaited = awaits_behind w.collector (collector_after w) (changes_now w) w.awaited;
-}
+  -- its record when its machine was fed that word: where its step is a look, the pass has seen all changes so far
+  abbrev pub fed_at : State R W E → ℕ → PassRecord R W E
+  fed_at w party = let p = pass_at w party in record p {
+    machine = passes.fed_of by.read_fed by.write_fed by.exchange_fed p.machine (found_at w party);
+    seen = seen_with (passes.front_of by.read_front by.write_front by.exchange_front p.machine (found_at w party)) (changes_now w) p.seen;
+  }
 
--- the collector is the party behind the threads
-abbrev pub is_collector : State → ℕ → Bool
-is_collector w party = nat_lt w.layout.passes party
+  -- the world after its step alone
+  abbrev pub stepped : State R W E → ℕ → State R W E
+  stepped w party = put_pass (record w { words = applied (asks_at w party) w.words }) party (fed_at w party)
+
+  abbrev pub taken : State R W E → ℕ → State R W E
+  taken w party = settled_at kit (stepped w party) party
+
+  -- ---- all parties
+
+  -- the world after the collector's step
+  abbrev pub collected : State R W E → State R W E
+  collected w = let next = collectors.fed_of w.collector (found_by (collectors.asks_of w.collector) w.words) in record w {
+    words = applied (collectors.asks_of w.collector) w.words;
+    collector = next;
+    awaited = awaits_behind w.collector next (changes_now w) w.awaited;
+  }
+
+  -- the collector is the party after the threads
+  abbrev pub is_collector : State R W E → ℕ → Bool
+  is_collector w party = nat_lt w.layout.passes party
+
+  -- the step of a party's next turn
+  abbrev pub next_of : State R W E → ℕ → Step
+  next_of w party = if is_collector w party then collectors.asks_of w.collector else asks_at w party
+
+  -- whether a party's turn takes a step
+  abbrev pub can_step : State R W E → ℕ → Bool
+  can_step w party = not (is_ended (next_of w party))
+
+  -- the world after a turn of a party: one that waits or has ended takes no step
+  abbrev pub turn_of : State R W E → ℕ → State R W E
+  turn_of w party = if can_step w party then (if is_collector w party then collected w else taken w party) else w
+
+  -- every thread has ended
+  abbrev pub all_retired : State R W E → Bool
+  all_retired w = list_all (λ p. is_ended (passes.asks_of by.read_asks by.write_asks by.exchange_asks p.machine)) w.passes
+
+  -- What the turn of a party says of it where it takes no step: the collector waits for the threads, and has ended when all have.
+  abbrev pub rest_said : State R W E → ℕ → Turn
+  rest_said w party = if is_collector w party && not (all_retired w) then turns.Idle else turns.Ended
+
+  abbrev pub turn_said : State R W E → ℕ → Turn
+  turn_said w party = if can_step w party then turns.Took (next_of w party) else rest_said w party
+
+  -- turns in this order, and how many of them take a step
+  abbrev pub played : State R W E → List ℕ → State R W E
+  played w [] = w
+  played w (party ∷ rest) = played (turn_of w party) rest
+
+  abbrev pub steps_in : State R W E → List ℕ → ℕ
+  steps_in w [] = 0
+  steps_in w (party ∷ rest) = (if can_step w party then 1 else 0) + steps_in (turn_of w party) rest
 
 -- the threads and the collector
 abbrev pub IsParty : Sizes → ℕ → Type 0
 IsParty l party = (1 ≤ party) × (party ≤ l.passes + 1)
-
--- the world after a turn of a party
-abbrev pub turn_of : State → ℕ → State
-turn_of w party = if is_collector w party then collector_turn w else pass_turn w party
-
--- the step of a party's next turn
-abbrev pub next_of : State → ℕ → Step
-next_of w party = if is_collector w party then collectors.asks_of w.collector else asks_of (pass_at w party).machine
-
--- it has played its cycles
-abbrev pub is_done : CollectorMachine → Bool
-is_done (collector.Done s) = true
-is_done _ = false
-
--- whether a party's turn takes a step
-abbrev pub can_step : State → ℕ → Bool
-can_step w party = not (if is_collector w party then is_done w.collector else is_idle (pass_at w party).machine)
-
--- every thread has ended
-abbrev pub all_idle : List PassRecord → Bool
-all_idle passes = list_all (λ p. is_idle p.machine) passes
-
--- What the turn of a party says of it where it takes no step: the collector waits for the threads, and has ended when all have.
-abbrev pub rest_said : State → ℕ → Turn
-rest_said w party = if is_collector w party && not (all_idle w.passes) then turns.Idle else turns.Ended
-
--- what the turn of a party says of it
-abbrev pub turn_said : State → ℕ → Turn
-turn_said w party = if can_step w party then turns.Took (next_of w party) else rest_said w party
-
--- ---- some turns
-
--- in this order
-abbrev pub played : State → List ℕ → State
-played w [] = w
-played w (party ∷ rest) = played (turn_of w party) rest
-
--- how many of them take a step
-abbrev pub steps_in : State → List ℕ → ℕ
-steps_in w [] = 0
-steps_in w (party ∷ rest) = (if can_step w party then 1 else 0) + steps_in (turn_of w party) rest
 
 -- ---- the start
 
@@ -218,8 +264,8 @@ opening_words l = slice_set (slice_set (replicate (words_of l) 0) (region_at l 0
 abbrev pub opening_registers : Sizes → List FieldWord
 opening_registers l = replicate 7 (Num 0) ++ Link 1 (first_word l 0) ∷ []
 
--- a pass before its machine is known
-abbrev pub fresh_pass : Sizes → ℕ → PassRecord
+-- a pass before its first machine begins
+abbrev pub fresh_pass : {R W E : Type 0} → Sizes → ℕ → PassRecord R W E
 fresh_pass l party = record {
   view = record { pass = party; acked = 0; mark = 0 };
   registers = opening_registers l;
@@ -229,62 +275,79 @@ fresh_pass l party = record {
   seen = 0;
 }
 
--- before its first command, or before it retires
-abbrev pub opening_pass : Sizes → List Command → ℕ → PassRecord
-opening_pass l commands party = record (fresh_pass l party) { machine = machine_behind l commands 0 (fresh_pass l party) }
+module _ {R W E M : Type 0} (kit : Kit R W E M) where
+  -- before its first command, or before it retires
+  abbrev pub opening_pass : Sizes → List Command → ℕ → PassRecord R W E
+  opening_pass l commands party = or_else (started kit l (fresh_pass l party) (if nat_lt 0 (length commands) then requests.Poll else requests.Retire)) (fresh_pass l party)
 
--- the passes from this one on, of which these are the commands
-abbrev pub opening_passes : Sizes → ℕ → List (List Command) → List PassRecord
-opening_passes l party [] = []
-opening_passes l party (commands ∷ later) = opening_pass l commands party ∷ opening_passes l (party + 1) later
+  -- the passes from this one on, of which these are the commands
+  abbrev pub opening_passes : Sizes → ℕ → List (List Command) → List (PassRecord R W E)
+  opening_passes l party [] = []
+  opening_passes l party (commands ∷ later) = opening_pass l commands party ∷ opening_passes l (party + 1) later
 
-abbrev pub opening_state : Reading → State
-opening_state s = record {
-  layout = s.layout;
-  commands = commands_by s.layout.passes s.lines;
-  words = opening_words s.layout;
-  passes = opening_passes s.layout 1 (commands_by s.layout.passes s.lines);
-  collector = collector_of s.layout s.cycles;
-  awaited = none_awaited;
-  told = opening_telling (commands_by s.layout.passes s.lines);
-}
+  abbrev pub opening_state : Reading → State R W E
+  opening_state s = record {
+    layout = s.layout;
+    commands = commands_by s.layout.passes s.lines;
+    words = opening_words s.layout;
+    passes = opening_passes s.layout 1 (commands_by s.layout.passes s.lines);
+    collector = collector_of s.layout s.cycles;
+    awaited = none_awaited;
+    told = opening_telling (commands_by s.layout.passes s.lines);
+  }
 
 -- ---- what the code of a turn relies on
 
--- the record with which the pass goes on to its next command has what its poll asks for
-abbrev pub IsReadyAfter : Sizes → Settled → Type 0
-IsReadyAfter l (settled.Going p) = Unit {0}
-IsReadyAfter l (settled.Answered p answer call) = IsReady l p
-IsReadyAfter l (settled.Raced p) = Unit {0}
+-- a word that a machine has ended with, and that may go to a register, fits it
+abbrev pub EndFits : MachineEnd → Type 0
+EndFits (ends.New (new_end.Made birth at room)) = IsFieldWord (Link birth at)
+EndFits (ends.Read (read_end.Got word)) = IsFieldWord word
+EndFits (ends.Exchange (exchange_end.Differs word)) = IsFieldWord word
+EndFits end = Unit {0}
 
--- there are such a thread, and room for what it will tell
-pub record CanTell (w : State) (party : ℕ) : Type 0 where
-  pub least : 1 ≤ party
-  pub passes : party ≤ length w.passes
-  pub commands : party ≤ length w.commands
-  pub answers : party ≤ length w.told.answers
-  pub room : answered w party < room_at w.told.rooms party
-  pub log : length w.told.log < w.told.log_room
-  pub agains : place_of_command w party < length w.told.agains
-  pub few : place_of_command w party < 2 ^ 32
-  pub changes : length (changes_of w.told.log) < 2 ^ 31
+-- what comes of an end can be done: the machine begins, and the word fits the register
+abbrev pub SequelFits : Sequel → Type 0
+SequelFits (sequel.Starts request) = Fits request
+SequelFits (sequel.Answered put answer ended) = PutFits put
+SequelFits s = Unit {0}
 
--- there are such a thread, and answers of it
-pub record IsThere (w : State) (party : ℕ) : Type 0 where
-  pub least : 1 ≤ party
-  pub passes : party ≤ length w.passes
-  pub commands : party ≤ length w.commands
-  pub answers : party ≤ length w.told.answers
+module _ {R W E : Type 0} where
+  -- there are such a thread, and answers of it
+  pub record IsThere (w : State R W E) (party : ℕ) : Type 0 where
+    pub least : 1 ≤ party
+    pub passes : party ≤ length w.passes
+    pub commands : party ≤ length w.commands
+    pub answers : party ≤ length w.told.answers
 
--- what comes of the machine of this record can be taken in
-pub record CanSettle (w : State) (party : ℕ) (p : PassRecord) : Type 0 where
-  pub there : IsThere w party
-  pub ready : IsReady w.layout p
-  pub polled : HasPolled w.layout p
-  pub command : ForSome (command_at w party) (λ c. CanTell w party × CommandFits c × IsReadyAfter w.layout (settled_of w.layout (changes_now w) c p))
+  -- and room for what it will tell
+  pub record CanTell (w : State R W E) (party : ℕ) : Type 0 where
+    pub there : IsThere w party
+    pub room : answered w party < room_at w.told.rooms party
+    pub log : length w.told.log < w.told.log_room
+    pub agains : place_of_command w party < length w.told.agains
+    pub few : place_of_command w party < 2 ^ 32
+    pub changes : changes_now w < 2 ^ 31
 
--- the thread's machine can take its next step
-pub record CanTake (w : State) (party : ℕ) : Type 0 where
-  pub inside : IsInside (length w.words) (asks_of (pass_at w party).machine)
-  pub goes_on : asks_of (pass_at w party).machine ≢ Ended
-  pub settle : CanSettle (stepped w (pass_at w party).machine) party (fed w (pass_at w party) (pass_at w party).machine)
+  -- what comes of a record whose machine has ended can be done
+  pub record CanFollow (w : State R W E) (party : ℕ) (p : PassRecord R W E) (command : Command) : Type 0 where
+    pub tell : CanTell w party
+    pub ready : IsReady w.layout p
+    pub fits : CommandFits command
+
+  pub record CanConclude (w : State R W E) (party : ℕ) (end : MachineEnd) : Type 0 where
+    pub there : IsThere w party
+    pub births : HasBirths (let p = pass_at w party in p.made) end
+    pub word : EndFits end
+    pub follow : ForSome (command_at w party) (λ c. CanFollow w party (with_end (pass_at w party) end) c)
+
+module _ {R W E M : Type 0} (kit : Kit R W E M) where
+  pub record CanSettle (w : State R W E) (party : ℕ) : Type 0 where
+    pub there : IsThere w party
+    pub conclude : ForSome (let p = pass_at w party in ended_of kit p.machine) (λ end. CanConclude w party end)
+
+module _ {R W E M : Type 0} (kit : Kit R W E M) (by : Stepping R W E M) where
+  -- the thread's machine can take its next step
+  pub record CanTake (w : State R W E) (party : ℕ) : Type 0 where
+    pub inside : IsInside (length w.words) (asks_at kit by w party)
+    pub goes_on : asks_at kit by w party ≢ Ended
+    pub settle : CanSettle kit (stepped kit by w party) party

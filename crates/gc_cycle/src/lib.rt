@@ -1,16 +1,12 @@
 //! A world: the threads of a script and the words on which they step, played one atomic step at a time.
 #![tactic(auto)]
 
-mod arranging;
-mod collector;
-mod commands;
 mod schedule;
-mod settling;
-mod told;
+mod sequel;
+mod stepping;
 mod world;
 
-pub use arranging::arrange;
-pub use collector::{Announcement, Awaited, CollectorMachine, Stage};
 pub use schedule::{Schedule, StepsSpent};
-pub use told::Again;
+pub use sequel::{Face, InRegister, Sequel, what_follows};
+pub use stepping::Steps;
 pub use world::{Turn, World};

@@ -1,27 +1,24 @@
-//! Some passes and the collector, and the words on which they step.
+//! Some passes over any copier and the collector, and the words on which they step.
 
-ghost use Rattle.std.specs.Prelude.{◌≡◌, ◌≢◌, ◌≤◌, ◌<◌, ◌+◌, ◌-◌, ◌++◌, ◌∷◌, [], length, slice_set, false};
+ghost use Rattle.std.specs.Prelude.{◌≡◌, ◌≢◌, ◌≤◌, length};
 ghost use Rattle.call_steps.specs.declared.step.Step.TheVariants.{Ended as StepEnded};
 ghost use Rattle.call_steps.specs.Steps.{IsInside};
-ghost use Rattle.gc_cycle.specs.Collectors.{asks_of};
-ghost use Rattle.gc_cycle.specs.Ready.{IsReady};
-ghost use Rattle.gc_cycle.specs.Worlds.{State, CanTell, CanSettle, CanTake, IsReadyAfter, IsThere, pass_at, command_at, answered, concluded as concluded_in, logged, machine_behind as machine_behind_of, moved, next_of, settled_at, taken_in as taken_in_of, turn_of, turn_said, is_idle as is_idle_in, is_done as is_done_in, collector_turn, with_pass};
-ghost use Rattle.gc_cycle.specs.Lawful.{Lawful};
-ghost use Rattle.gc_cycle.specs.Commands.{commands_at};
+ghost use Rattle.barriers.specs.Records.{IsReady, Fits, started};
+ghost use Rattle.lawful_records.specs.Collectors.{asks_of as collector_asks};
+ghost use Rattle.gc_cycle.specs.Worlds.{CanTell, CanConclude, CanSettle, CanTake, IsThere, PutFits, SequelFits, command_at, seen_with as seen_with_of, with_put as with_put_of, in_front as in_front_of, face_of, put_pass as put_pass_in, next_request as next_request_in, begun_at, access_begun, answered_with, followed_at, concluded_at, settled_at, asks_at, stepped as stepped_in, taken as taken_in, collected};
 
 mod opening;
 mod playing;
 mod showing;
 
-use crate::collector::{Awaited, CollectorMachine};
-use crate::commands::Commands;
-use crate::settling::{Settled, poll_before, rested, retirement, settle};
-use crate::told::Told;
-use barriers::{PassMachine, PassRecord};
+use crate::sequel::{Face, InRegister, Sequel, what_follows};
+use crate::stepping::Steps;
+use barriers::{Copier, Front, MachineEnd, PassRecord, Request, Watched, end_of, start, with_end};
 use call_steps::{Machine, PlainWords, Step};
 use heap_history::Ended;
-use heap_script::{Answer, Command};
+use heap_script::{Answer, Command, Commands, Refusal, Told};
 use heap_words::Layout;
+use lawful_records::{Awaited, CollectorMachine};
 use std::marker::Model;
 
 /// What a party's turn was.
@@ -36,101 +33,91 @@ pub enum Turn {
 }
 
 /// The passes of a script, which play its commands, the collector, the words on which they step, and what there is
-/// to tell. The parties are the threads, which count from 1, and behind them the collector.
+/// to tell. The parties are the threads, which count from 1, and after them the collector.
 #[derive(Drop)]
-pub struct World {
+pub struct World<P: Copier> {
     layout: Layout,
     commands: Commands,
     words: PlainWords,
-    passes: Vec<PassRecord>,
+    passes: Vec<PassRecord<P::Read, P::Write, P::Exchange>>,
     collector: CollectorMachine,
     awaited: Awaited,
     told: Told,
 }
 
-impl Model for World {
+impl<P: Copier> Model for World<P> {
     ghost use Rattle.gc_cycle.specs.Worlds.{State};
 
-    ghost Value = { State };
+    ghost Value = { State P.Read P.Write P.Exchange };
 
     ghost view = { λ w. record { layout = w.layout; commands = w.commands; words = w.words; passes = w.passes.items; collector = w.collector; awaited = w.awaited; told = w.told } };
 }
 
-/// Whether a machine is none.
-fn is_idle(machine: &PassMachine) -> bool
-    ensures { result ≡ is_idle_in machine.now }
+/// How many changes a pass has seen after a step with this front. Nothing is sealed yet.
+fn seen_with(front: Front, changes: u32, seen: u32) -> u32
+    ensures { result ≡ seen_with_of front changes seen }
 {
-    matches!(machine, PassMachine::Idle)
-}
-
-/// Whether the collector has played its cycles.
-fn is_done(collector: &CollectorMachine) -> bool
-    ensures { result ≡ is_done_in collector.now }
-{
-    matches!(collector, CollectorMachine::Done(_))
-}
-
-impl World {
-    /// The machine behind so many of a thread's commands: the poll before the next one, or the retirement behind
-    /// the last.
-    fn machine_behind(&self, party: u32, count: usize, pass: PassRecord) -> PassMachine
-        requires party { (1 ≤ party) × (party ≤ length self.now.commands) }
-        requires ready { IsReady self.now.layout pass }
-        ensures { result ≡ machine_behind_of self.now.layout (commands_at self.now.commands party) count pass }
-    {
-        if count < self.commands.count(party) {
-            poll_before(&self.layout, pass)
-        } else {
-            retirement(&self.layout, pass)
-        }
+    match front {
+        Front::Stays => seen,
+        Front::Now | Front::SealedOrNow => changes,
     }
+}
 
-    fn put_pass(&mut self, party: u32, pass: PassRecord)
+/// What a script reads of a record.
+fn face<R: Copy, W: Copy, E: Copy>(pass: PassRecord<R, W, E>) -> Face
+    ensures { result ≡ face_of pass }
+{
+    let registers = pass.registers;
+    Face {
+        pass: pass.view.pass,
+        registers,
+        seen: pass.seen,
+    }
+}
+
+/// The record with a word in a register, if there is one.
+fn with_put<R: Copy, W: Copy, E: Copy>(
+    pass: PassRecord<R, W, E>,
+    put: Option<InRegister>,
+) -> PassRecord<R, W, E>
+    requires { PutFits put }
+    ensures { result ≡ with_put_of pass put }
+{
+    let Some(put) = put else {
+        return pass;
+    };
+    let mut registers = pass.registers;
+    registers[put.register as usize] = put.word;
+    PassRecord { registers, ..pass }
+}
+
+/// The record that has seen what an ended call has.
+fn in_front<R: Copy, W: Copy, E: Copy>(
+    pass: PassRecord<R, W, E>,
+    ended: Option<Ended>,
+) -> PassRecord<R, W, E>
+    ensures { result ≡ in_front_of pass ended }
+{
+    match ended {
+        None => pass,
+        Some(ended) => PassRecord {
+            seen: ended.front,
+            ..pass
+        },
+    }
+}
+
+impl<P: Copier> World<P>
+where
+    P::Read: Copy,
+    P::Write: Copy,
+    P::Exchange: Copy,
+{
+    fn put_pass(&mut self, party: u32, pass: PassRecord<P::Read, P::Write, P::Exchange>)
         requires party { (1 ≤ party) × (party ≤ length self.old.passes) }
-        ensures { self.new ≡ with_pass self.old party pass }
+        ensures { self.new ≡ put_pass_in self.old party pass }
     {
         self.passes[party as usize - 1] = pass;
-    }
-
-    /// The command is answered, and the pass goes on to its next one.
-    fn conclude(&mut self, party: u32, pass: PassRecord, answer: Answer, ended: Option<Ended>)
-        requires tell { CanTell self.old party }
-        requires ready { IsReady self.old.layout pass }
-        ensures { self.new ≡ concluded_in self.old party pass answer ended }
-    {
-        let count = self.told.answered(party) + 1;
-        let machine = self.machine_behind(party, count, pass);
-        if let Some(ended) = ended {
-            self.told.enter(ended);
-        }
-        self.told.answer(party, answer);
-        self.put_pass(party, PassRecord { machine, ..pass });
-    }
-
-    /// One more try of the command that the party is at was raced.
-    fn count_race(&mut self, party: u32, pass: PassRecord)
-        requires tell { CanTell self.old party }
-        ensures { self.new ≡ taken_in_of self.old party (Settled.Raced pass) }
-    {
-        let place = self.commands.before(party) + self.told.answered(party);
-        self.told.race(place);
-        self.put_pass(party, pass);
-    }
-
-    fn take_in(&mut self, party: u32, settled: Settled)
-        requires tell { CanTell self.old party }
-        requires ready { IsReadyAfter self.old.layout settled }
-        ensures { self.new ≡ taken_in_of self.old party settled }
-    {
-        match settled {
-            Settled::Going(pass) => self.put_pass(party, pass),
-            Settled::Answered {
-                pass,
-                answer,
-                ended,
-            } => self.conclude(party, pass, answer, ended),
-            Settled::Raced(pass) => self.count_race(party, pass),
-        }
     }
 
     /// The command that a party is at, if one is left.
@@ -141,52 +128,169 @@ impl World {
         self.commands.get(party, self.told.answered(party))
     }
 
-    /// What follows from the machine of this record without a further step.
-    fn settle(&mut self, party: u32, pass: PassRecord)
-        requires { CanSettle self.old party pass }
-        ensures { self.new ≡ settled_at self.old party pass (command_at self.old party) }
+    /// What a thread does after so many of its commands: the poll before the next one, or the retirement after the
+    /// last.
+    fn next_request(&self, party: u32, count: usize) -> Request
+        requires there { IsThere self.now party }
+        ensures request { result ≡ next_request_in self.now party count }
+        ensures fits { Fits result }
     {
+        if count < self.commands.count(party) {
+            Request::Poll
+        } else {
+            Request::Retire
+        }
+    }
+
+    /// The pass begins the machine that does what is asked, if the register leads to an object.
+    fn begin(
+        &mut self,
+        party: u32,
+        pass: PassRecord<P::Read, P::Write, P::Exchange>,
+        request: Request,
+    )
+        requires party { (1 ≤ party) × (party ≤ length self.old.passes) }
+        requires ready { IsReady self.old.layout pass }
+        requires fits { Fits request }
+        ensures { self.new ≡ begun_at P.kit self.old party pass request }
+    {
+        match start::<P>(&self.layout, pass, request) {
+            Some(next) => self.put_pass(party, next),
+            None => self.put_pass(party, pass),
+        }
+    }
+
+    /// The command is answered, and the pass goes on to its next one.
+    fn answer(
+        &mut self,
+        party: u32,
+        pass: PassRecord<P::Read, P::Write, P::Exchange>,
+        answer: Answer,
+        ended: Option<Ended>,
+    )
+        requires tell { CanTell self.old party }
+        requires ready { IsReady self.old.layout pass }
+        ensures { self.new ≡ answered_with P.kit self.old party pass answer ended }
+    {
+        let request = self.next_request(party, self.told.answered(party) + 1);
+        if let Some(ended) = ended {
+            self.told.enter(ended);
+        }
+        self.told.answer(party, answer);
+        self.begin(party, pass, request);
+    }
+
+    /// A command begins, or is answered as one that leads to no object.
+    fn begin_access(
+        &mut self,
+        party: u32,
+        pass: PassRecord<P::Read, P::Write, P::Exchange>,
+        request: Request,
+    )
+        requires tell { CanTell self.old party }
+        requires ready { IsReady self.old.layout pass }
+        requires fits { Fits request }
+        ensures { self.new ≡ access_begun P.kit self.old party pass (started P.kit self.old.layout pass request) }
+    {
+        match start::<P>(&self.layout, pass, request) {
+            Some(next) => self.put_pass(party, next),
+            None => self.answer(party, pass, Answer::NotLink, None),
+        }
+    }
+
+    /// One more try of the command was refused, and the pass polls before the next one.
+    fn retry(&mut self, party: u32, pass: PassRecord<P::Read, P::Write, P::Exchange>, why: Refusal)
+        requires tell { CanTell self.old party }
+        requires ready { IsReady self.old.layout pass }
+        ensures { self.new ≡ followed_at P.kit self.old party pass (Sequel.Retries why) }
+    {
+        let place = self.commands.before(party) + self.told.answered(party);
+        self.told.count(place, why);
+        self.begin(party, pass, Request::Poll);
+    }
+
+    fn follow(
+        &mut self,
+        party: u32,
+        pass: PassRecord<P::Read, P::Write, P::Exchange>,
+        sequel: Sequel,
+    )
+        requires tell { CanTell self.old party }
+        requires ready { IsReady self.old.layout pass }
+        requires fits { SequelFits sequel }
+        ensures { self.new ≡ followed_at P.kit self.old party pass sequel }
+    {
+        match sequel {
+            Sequel::Nothing => self.put_pass(party, pass),
+            Sequel::Starts(request) => self.begin_access(party, pass, request),
+            Sequel::Answered { put, answer, ended } => {
+                self.answer(party, in_front(with_put(pass, put), ended), answer, ended)
+            }
+            Sequel::Retries(why) => self.retry(party, pass, why),
+        }
+    }
+
+    /// The machine of the party has ended so.
+    fn conclude(&mut self, party: u32, end: MachineEnd)
+        requires { CanConclude self.old party end }
+        ensures { self.new ≡ concluded_at P.kit self.old party end }
+    {
+        let pass = with_end(self.passes[party as usize - 1], end);
         match self.command(party) {
-            None => self.put_pass(party, rested(pass)),
+            None => self.put_pass(party, pass),
             Some(command) => {
-                let settled = settle(&self.layout, self.told.changes(), command, pass);
-                self.take_in(party, settled);
+                let sequel = what_follows(self.told.changes(), command, face(pass), end);
+                self.follow(party, pass, sequel);
             }
         }
     }
 
-    /// The party's machine takes its next step, and what follows from it.
-    fn take(&mut self, party: u32)
-        requires { CanTake self.old party }
-        ensures { self.new ≡ moved self.old party }
+    /// What follows from the party's step without a further step. Its record is copied only where its machine has
+    /// ended.
+    fn settle(&mut self, party: u32)
+        requires { CanSettle P.kit self.old party }
+        ensures { self.new ≡ settled_at P.kit self.old party }
     {
-        let pass = self.passes[party as usize - 1];
-        let mut machine = pass.machine;
-        let found = self.words.apply(machine.ask());
-        let seen = if machine.sees(found) {
-            self.told.changes()
-        } else {
-            pass.seen
-        };
-        machine.feed(found);
-        self.settle(
-            party,
-            PassRecord {
-                machine,
-                seen,
-                ..pass
-            },
-        );
+        if let Some(end) = end_of::<P>(&self.passes[party as usize - 1].machine) {
+            self.conclude(party, end);
+        }
     }
 
-    /// The collector takes its next step.
-    fn collect(&mut self)
-        requires inside { IsInside (length self.old.words) (asks_of self.old.collector) }
-        requires goes_on { asks_of self.old.collector ≢ StepEnded }
-        ensures { self.new ≡ collector_turn self.old }
+    /// The party's machine takes the step that it asks for, in place.
+    fn step_pass(&mut self, party: u32, step: Step)
+        requires party { (1 ≤ party) × (party ≤ length self.old.passes) }
+        requires asked { step ≡ asks_at P.kit ⟦<P as Steps>⟧.by self.old party }
+        requires inside { IsInside (length self.old.words) step }
+        requires goes_on { step ≢ StepEnded }
+        ensures { self.new ≡ stepped_in P.kit ⟦<P as Steps>⟧.by self.old party }
+    {
+        let changes = self.told.changes();
+        let found = self.words.apply(step);
+        let pass = &mut self.passes[party as usize - 1];
+        pass.seen = seen_with(pass.machine.front(found), changes, pass.seen);
+        pass.machine.feed(found);
+    }
+
+    /// The party takes the step that its machine asks for, and what follows from it.
+    fn take(&mut self, party: u32, step: Step)
+        requires can { CanTake P.kit ⟦<P as Steps>⟧.by self.old party }
+        requires party { (1 ≤ party) × (party ≤ length self.old.passes) }
+        requires asked { step ≡ asks_at P.kit ⟦<P as Steps>⟧.by self.old party }
+        ensures { self.new ≡ taken_in P.kit ⟦<P as Steps>⟧.by self.old party }
+    {
+        self.step_pass(party, step);
+        self.settle(party);
+    }
+
+    /// The collector takes the step that it asks for.
+    fn collect(&mut self, step: Step)
+        requires asked { step ≡ collector_asks self.old.collector }
+        requires inside { IsInside (length self.old.words) step }
+        requires goes_on { step ≢ StepEnded }
+        ensures { self.new ≡ collected P.kit ⟦<P as Steps>⟧.by self.old }
     {
         let before = self.collector;
-        let found = self.words.apply(before.ask());
+        let found = self.words.apply(step);
         self.collector.feed(found);
         self.awaited = self
             .awaited

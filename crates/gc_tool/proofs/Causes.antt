@@ -4,14 +4,15 @@ use Rattle.std.specs.Prelude.{IsErrOf}
 use Rattle.heap_script.specs.Scripts.{Reading}
 use Rattle.heap_script.specs.FirstFault.{IsScript, IsFault}
 use Rattle.heap_script.specs.Grammar.{Fault}
-use Rattle.heap_script.proofs.Unique.{one_script, script_or_fault, one_fault}
+use Rattle.heap_script.specs.UniqueLaws.{one_script, script_or_fault, one_fault}
 use Rattle.gc_tool.specs.declared.forms.Replay.{Replay}
 use Rattle.gc_tool.specs.declared.status.Status.{Status}
 use Rattle.gc_tool.specs.declared.status.Status.TheVariants.{Done, Usage, ReadFault, TooLong, ScriptFault, WriteFault, StepsSpent, OutOfMemory, NotBuilt}
 use Rattle.gc_tool.specs.Forms.{request_of, IsBuilt}
 use Rattle.gc_tool.specs.Outside.{Rose, Gave, ReadsAll}
-use Rattle.gc_tool.specs.Runs.{ends_within, status_after, Answers, IsOutput, IsCause, ReadsScript, IsHonest}
-use Rattle.gc_tool.proofs.Headline.{enough}
+use Rattle.gc_cycle.specs.declared.schedule.Schedule.TheVariants.{Solo}
+use Rattle.gc_cycle.specs.Runs.{enough_steps}
+use Rattle.gc_tool.specs.Runs.{ends_within, status_after, Answers, IsOutput, IsShort, IsCause, ReadsScript, IsHonest}
 
 -- what was read is what the source told
 same_bytes : (old new : Option (List ℕ)) (read told : List ℕ) → ReadsAll old new read → old ≡ Some told → read ≡ told
@@ -38,12 +39,11 @@ after_over : (script : Reading) (replay : Replay) → ends_within script replay 
 after_over script replay over = rw over refl
 
 -- the answer to bytes that spell a script which is played
-answers_script : (bytes : List ℕ) (replay : Replay) (script : Reading) (status : Status) → IsScript bytes script → IsBuilt script → status ≡ status_after script replay → Answers bytes replay status
-answers_script bytes replay script status spells built is = record {
+answers_script : (bytes : List ℕ) (replay : Replay) (script : Reading) (status : Status) → IsScript bytes script → IsBuilt script → status ≡ status_after script replay
+    → (replay.schedule ≡ Solo → enough_steps script ≤ replay.steps → status ≡ Done) → Answers bytes replay status
+answers_script bytes replay script status spells built is many = record {
   played = λ other says ready. subst (λ (s : Reading). status ≡ status_after s replay) (one_script bytes script other spells says) is;
-  enough = λ other says ready solo many.
-      let same = one_script bytes other script says spells in
-      is ∙ sym (after_over script replay (subst (λ (s : Reading). ends_within s replay ≡ true) same (enough other replay ready solo many)));
+  enough = λ other says ready solo steps. many solo (subst (λ (s : Reading). enough_steps s ≤ replay.steps) (one_script bytes other script says spells) steps);
   unbuilt = λ other says unbuilt. absurd (unbuilt (subst IsBuilt (one_script bytes script other spells says) built));
   fault = λ fault is_fault. absurd (script_or_fault bytes script fault spells is_fault);
 }
@@ -81,8 +81,9 @@ module _ (words : List (List ℕ)) (old new : Option (List ℕ)) (asked : Replay
   stopped (StepsSpent n) r fo fn is (n_is, longer) gave quiet =
       let same = same_bytes old new longer.read.bytes bytes longer.read.all honest.told in
       let spells = subst (λ (b : List ℕ). IsScript b longer.script) same longer.read.spells in
-      let on : ends_within longer.script replay ≡ false = subst (λ (a : Replay). ends_within longer.script a ≡ false) same_asked longer.on in
-      inl (answers_script bytes replay longer.script (StepsSpent n) spells longer.read.built (ap StepsSpent (n_is ∙ ap (λ (a : Replay). a.steps) same_asked) ∙ after_on longer.script replay on))
+      let short : IsShort longer.script replay = subst (IsShort longer.script) same_asked longer.short in
+      inl (answers_script bytes replay longer.script (StepsSpent n) spells longer.read.built (ap StepsSpent (n_is ∙ ap (λ (a : Replay). a.steps) same_asked) ∙ after_on longer.script replay short.on)
+      (λ solo enough. absurd (omega (arith, short.few solo, enough))))
   stopped NotBuilt r fo fn is cause gave quiet =
       let same = same_bytes old new cause.bytes bytes cause.all honest.told in
       inl (answers_unbuilt bytes replay cause.script (subst (λ (b : List ℕ). IsScript b cause.script) same cause.spells) cause.unbuilt)
@@ -97,4 +98,4 @@ module _ (words : List (List ℕ)) (old new : Option (List ℕ)) (asked : Replay
       let same = same_bytes old new read.bytes bytes read.all honest.told in
       let spells = subst (λ (b : List ℕ). IsScript b script) same read.spells in
       let over : ends_within script replay ≡ true = subst (λ (a : Replay). ends_within script a ≡ true) same_asked output.ends in
-      answers_script bytes replay script Done spells read.built (after_over script replay over)
+      answers_script bytes replay script Done spells read.built (after_over script replay over) (λ solo enough. refl)

@@ -1,87 +1,64 @@
 -- What is printed of a world that has played a script to its end is the output of the replay.
-use Rattle.std.proofs.Common.{◌≡◌, ℕ, ◌+◌, ◌-◌, ◌<◌, ◌≤◌, List, [], length, get_or, true, refl, sym, ap, ◌∙◌, subst, arith}
+use Rattle.std.proofs.Common.{◌≡◌, ℕ, ◌<◌, ◌≤◌, List, true, false, refl, sym, ap, ◌∙◌, subst, arith, inl, inr}
 use Rattle.std.specs.Prelude.{Result, Ok, IsOk}
-use Rattle.heap_words.specs.Layouts.{IsPass}
+use Rattle.std.proofs.lemmas.Bool.{cases_order}
 use Rattle.heap_script.specs.Scripts.{Reading}
-use Rattle.gc_cycle.specs.declared.schedule.Schedule.{Schedule}
-use Rattle.gc_cycle.specs.declared.schedule.Schedule.TheVariants.{Solo}
-use Rattle.gc_cycle.specs.Commands.{commands_by}
 use Rattle.heap_script.specs.Allowed.{IsAllowed}
-use Rattle.heap_script.specs.declared.answer.Answer.{Answer}
-use Rattle.gc_cycle.specs.Arranged.{shown}
-use Rattle.gc_cycle.specs.Worlds.{State, opening_state}
-use Rattle.gc_cycle.specs.Lawful.{Lawful, IsScript}
-use Rattle.gc_cycle.specs.Runs.{run_of, is_over}
-use Rattle.gc_cycle.proofs.AllowedAnswers.{run_keeps, run_keeps_static, over_allowed}
-use Rattle.gc_cycle.proofs.Facts.{get_below, get_or_of_get}
-use Rattle.gc_cycle.proofs.Going.{length_at}
-use Rattle.gc_cycle.proofs.Opening.{opening_lawful, script_of}
-use Rattle.gc_cycle.proofs.Showing.{shows_of}
+use Rattle.heap_history.specs.FixedHeaps.{opening}
+use Rattle.heap_history.specs.Histories.{IsAccepted, changes}
+use Rattle.at_rest.specs.Knowing.{kit_at_rest}
+use Rattle.at_rest.specs.Rests.{steps_at_rest}
+use Rattle.gc_cycle.specs.declared.schedule.Schedule.{Schedule}
+use Rattle.gc_cycle.specs.Worlds.{opening_state}
+use Rattle.gc_cycle.specs.Lawful.{Lawful}
+use Rattle.gc_cycle.specs.Runs.{run_of, is_over, enough_steps}
+use Rattle.gc_cycle.specs.Shows.{Plays, Shows}
 use Rattle.gc_cycle.proofs.SoloEnds.{solo_ends}
 use Rattle.gc_tool.specs.declared.forms.Replay.{Replay}
-use Rattle.gc_tool.specs.Forms.{IsBuilt}
-use Rattle.gc_tool.specs.Runs.{world_after, ends_within, enough_steps, text_of_world, IsOutput}
+use Rattle.gc_tool.specs.Runs.{RestWorld, world_after, ends_within, entries_of, text_of_world, IsTextOf, IsOutput, IsShort}
 
--- a script that is built is one for which a world is built
-pub is_script : (script : Reading) → IsBuilt script → IsScript script.layout (commands_by script.layout.passes script.lines)
-is_script script built = script_of script built.fits built.room
+below : (n m : ℕ) → (m ≤ n → ⊥) → n < m
+below n m not_above = elim (cases_order n m) [
+  | inl same ↦ absurd (not_above (omega (arith, same)))
+  | inr (inl less) ↦ less
+  | inr (inr more) ↦ absurd (not_above (omega (arith, more)))
+]
 
--- its world at the start is lawful
-pub opens : (script : Reading) → IsBuilt script → Lawful (opening_state script)
-opens script built = opening_lawful script (is_script script built) built.fits.cycles
+-- a run from the world of a script at its start
+module _ (script : Reading) (replay : Replay) (before after : RestWorld) (first : before ≡ opening_state kit_at_rest script) (taken : after ≡ run_of kit_at_rest steps_at_rest replay.schedule replay.steps before) where
+  same : after ≡ world_after script replay
+  same = taken ∙ ap (run_of kit_at_rest steps_at_rest replay.schedule replay.steps) first
 
--- and whatever the schedule
-pub lawful_after : (script : Reading) (replay : Replay) → IsBuilt script → Lawful (world_after script replay)
-lawful_after script replay built = run_keeps replay.schedule replay.steps (opening_state script) (opens script built)
+  -- it plays the script
+  plays : after.layout ≡ before.layout → after.commands ≡ before.commands → Plays after script
+  plays layout commands = record { layout = layout ∙ ap (λ (w : RestWorld). w.layout) first; commands = commands ∙ ap (λ (w : RestWorld). w.commands) first }
 
--- the text of a world whose threads have ended is the output of the replay
-pub is_output : (script : Reading) (replay : Replay) → IsBuilt script → ends_within script replay ≡ true → IsOutput script replay (text_of_world (world_after script replay))
-is_output script replay built ends =
-    let w = world_after script replay in
-    let lawful = lawful_after script replay built in
-    let stays = run_keeps_static replay.schedule replay.steps (opening_state script) in
-    let shows = shows_of w lawful (shown w.told.log) refl in
-    record {
-      ends = ends;
-      told = refl;
-      legal = record {
-        entries = shown w.told.log;
-        agains = w.told.agains;
-        answers = w.told.answers;
-        text_is = refl;
-        accepted = shows.accepted;
-        allowed = subst (λ history. IsAllowed script history w.told.answers) (sym shows.changes_are) (over_allowed script w lawful ends stays.layout stays.commands);
-      };
-      shows = shows;
-    }
+  -- The text of the world that was played to its end is the output.
+  pub printed_output : after.layout ≡ before.layout → after.commands ≡ before.commands → is_over kit_at_rest steps_at_rest after ≡ true → (text : List ℕ) → IsTextOf after text → IsOutput script replay text
+  printed_output layout commands over text printed =
+      let Told : RestWorld → Type 0 = λ w. text ≡ text_of_world w in
+      let Accepted : RestWorld → Type 0 = λ w. IsAccepted opening (entries_of w) in
+      let Allowed : RestWorld → Type 0 = λ w. IsAllowed script (changes (entries_of w)) w.told.answers in
+      let Showing : RestWorld → Type 0 = λ w. Shows kit_at_rest steps_at_rest w (entries_of w) in
+      record {
+        ends = sym (ap (is_over kit_at_rest steps_at_rest) same) ∙ over;
+        told = subst Told same printed.told;
+        accepted = subst Accepted same printed.shows.accepted;
+        allowed = subst Allowed same (printed.shows.allowed script (plays layout commands) over);
+        shows = subst Showing same printed.shows;
+      }
 
--- where one thread plays after another, so many steps are enough
-pub enough : (script : Reading) (replay : Replay) → IsBuilt script → replay.schedule ≡ Solo → enough_steps script ≤ replay.steps → ends_within script replay ≡ true
-enough script replay built solo many =
-    let P : Schedule → Type 0 = λ schedule. is_over (run_of schedule replay.steps (opening_state script)) ≡ true in
-    subst P (sym solo) (solo_ends script (opens script built) replay.steps many)
-
--- what is printed of the world that was played to its end is that output
-pub printed_output : (script : Reading) (replay : Replay) (built : IsBuilt script) (before after : State) → before ≡ opening_state script → after ≡ run_of replay.schedule replay.steps before → is_over after ≡ true
-    → (text : List ℕ) → text ≡ text_of_world after → IsOutput script replay text
-printed_output script replay built before after first taken over text printed =
-    let same : after ≡ world_after script replay = taken ∙ ap (run_of replay.schedule replay.steps) first in
-    subst (IsOutput script replay) (sym (printed ∙ ap text_of_world same)) (is_output script replay built (sym (ap is_over same) ∙ over))
-
--- no thread has more answers than a script has commands
-pub few_answers : (w : State) → Lawful w → (lists : List (List Answer)) → lists ≡ w.told.answers → (k : ℕ) (d : List Answer) → k < length lists → length (get_or lists k d) < 2147483648
-few_answers w lw lists same k d within =
-    let P : List (List Answer) → Type 0 = λ xs. k < length xs → length (get_or xs k d) < 2147483648 in
-    subst P (sym same) (λ inside.
-    let is : IsPass w.layout (k + 1) = (omega arith, omega (arith, inside, lw.room.threads, lw.script.threads)) in
-    let t = lw.threads (k + 1) is in
-    let back : k + 1 - 1 ≡ k = omega arith in
-    let got = get_below w.told.answers k inside in
-    let at : get_or w.told.answers k d ≡ get_or w.told.answers (k + 1 - 1) [] =
-    get_or_of_get w.told.answers k got.0 d got.1 ∙ sym (get_or_of_get w.told.answers k got.0 [] got.1) ∙ ap (λ i. get_or w.told.answers i []) (sym back) in
-    let fits = t.answers_fit in
-    let few = lw.script.few in
-    omega (arith, ap length at, fits, length_at w.commands (k + 1 - 1), few)) within
+  -- Where it was not played to its end, the replay is too short.
+  pub is_short : Lawful kit_at_rest before → is_over kit_at_rest steps_at_rest after ≡ false → IsShort script replay
+  is_short lw going =
+      let on : ends_within script replay ≡ false = sym (ap (is_over kit_at_rest steps_at_rest) same) ∙ going in
+      let Over : Schedule → Type 0 = λ schedule. is_over kit_at_rest steps_at_rest (run_of kit_at_rest steps_at_rest schedule replay.steps (opening_state kit_at_rest script)) ≡ true in
+      record {
+        on = on;
+        few = λ solo. below replay.steps (enough_steps script) (λ enough.
+            let over : ends_within script replay ≡ true = subst Over (sym solo) (solo_ends script (subst (Lawful kit_at_rest) first lw) replay.steps enough) in
+            absurd (cc (on, over)));
+      }
 
 -- a result that is Ok
 pub ok_is : {T E : Type 0} (r : Result T E) (x : T) → r ≡ Ok x → IsOk r

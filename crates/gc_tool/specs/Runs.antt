@@ -1,18 +1,22 @@
 -- What a replay comes to, and what a call of the program says of the outside.
-use Rattle.std.specs.Prelude.{◌≡◌, ◌+◌, ℕ, ◌*◌, ◌≤◌, Bool, true, false, if◌then◌else◌, List, length, Option, Some, Ok}
+use Rattle.std.specs.Prelude.{◌≡◌, ℕ, ◌<◌, ◌≤◌, Bool, true, false, if◌then◌else◌, List, length, Option, Some, Ok}
 use Rattle.heap_history.specs.declared.call.Entry.{Entry}
 use Rattle.heap_history.specs.FixedHeaps.{opening}
 use Rattle.heap_history.specs.Histories.{IsAccepted, changes}
-use Rattle.heap_script.specs.declared.answer.Answer.{Answer}
 use Rattle.heap_script.specs.Scripts.{Reading}
 use Rattle.heap_script.specs.FirstFault.{IsScript, IsFault}
 use Rattle.heap_script.specs.Grammar.{Fault}
 use Rattle.heap_script.specs.Allowed.{IsAllowed}
 use Rattle.gc_cycle.specs.declared.schedule.Schedule.TheVariants.{Solo}
-use Rattle.gc_cycle.specs.declared.told.Again.{Again}
-use Rattle.gc_cycle.specs.Arranged.{shown}
+use Rattle.heap_history.specs.Arranged.{shown}
+use Rattle.barriers.specs.declared.read.ReadMachine.{ReadMachine}
+use Rattle.barriers.specs.declared.write.WriteMachine.{WriteMachine}
+use Rattle.barriers.specs.declared.exchange.ExchangeMachine.{ExchangeMachine}
+use Rattle.at_rest.specs.Knowing.{kit_at_rest}
+use Rattle.at_rest.specs.Rests.{steps_at_rest}
 use Rattle.gc_cycle.specs.Worlds.{State, opening_state}
-use Rattle.gc_cycle.specs.Runs.{run_of, is_over, Shows}
+use Rattle.gc_cycle.specs.Runs.{run_of, is_over, enough_steps}
+use Rattle.gc_cycle.specs.Shows.{Shows}
 use Rattle.gc_tool.specs.declared.forms.Replay.{Replay}
 use Rattle.gc_tool.specs.declared.status.Status.{Status}
 use Rattle.gc_tool.specs.declared.status.Status.TheVariants.{Done, Usage, ReadFault, TooLong, ScriptFault, WriteFault, StepsSpent, OutOfMemory, NotBuilt}
@@ -22,46 +26,48 @@ use Rattle.gc_tool.specs.Outside.{ReadsAll, Rose}
 
 -- ---- a replay
 
+-- a world over the copier that moves nothing
+abbrev pub RestWorld : Type 0
+RestWorld = State ReadMachine WriteMachine ExchangeMachine
+
 -- the world of a script after at most so many steps under the schedule
-abbrev pub world_after : Reading → Replay → State
-world_after script replay = run_of replay.schedule replay.steps (opening_state script)
+abbrev pub world_after : Reading → Replay → RestWorld
+world_after script replay = run_of kit_at_rest steps_at_rest replay.schedule replay.steps (opening_state kit_at_rest script)
 
 -- all threads of the script and the collector end within the steps
 abbrev pub ends_within : Reading → Replay → Bool
-ends_within script replay = is_over (world_after script replay)
+ends_within script replay = is_over kit_at_rest steps_at_rest (world_after script replay)
 
--- the text of a world's history, refused tries and answers
-abbrev pub text_of_world : State → List ℕ
-text_of_world w = replay_text (shown w.told.log) w.told.agains w.told.answers
+-- what this world tells: the entries of its history, the refused tries, and the answers
+abbrev pub entries_of : RestWorld → List Entry
+entries_of w = shown w.told.log
 
--- Where one thread plays after another, a command takes at most four steps: a `new` loads the phase word, loads and claims the
--- region's word and stores the header, and a `cas` loads the phase word, the header and the field and exchanges it. A thread that
--- retires stores eight registers, the word of its region and its acknowledgement. Then the collector stores each of the five phases of
--- a cycle, and loads the acknowledgement of each thread.
-abbrev pub enough_steps : Reading → ℕ
-enough_steps script = 4 * length script.lines + 10 * script.layout.passes + 5 * script.cycles * (1 + script.layout.passes)
+abbrev pub text_of_world : RestWorld → List ℕ
+text_of_world w = replay_text (entries_of w) w.told.agains w.told.answers
 
--- The text tells a legal run of the script: a heap whose objects never move accepts the entries, and the answers of all threads are
--- allowed for the changes among them.
-pub record IsLegal (script : Reading) (text : List ℕ) : Type 0 where
-  pub entries : List Entry
-  pub agains : List Again
-  pub answers : List (List Answer)
-  pub text_is : text ≡ replay_text entries agains answers
-  pub accepted : IsAccepted opening entries
-  pub allowed : IsAllowed script (changes entries) answers
+-- A text of a world: it tells what the world shows.
+pub record IsTextOf (w : RestWorld) (text : List ℕ) : Type 0 where
+  pub told : text ≡ text_of_world w
+  pub shows : Shows kit_at_rest steps_at_rest w (entries_of w)
 
--- The output of a replay: all parties end within its steps, and the text is that of its world, and legal. Each thread's calls stand
--- among the entries in the order of its commands, where their fronts say.
+-- The output of a replay: all parties end within its steps, and the text is that of its world. A heap whose objects never
+-- move accepts the world's entries, and the world's answers are allowed for the script and for the changes among them.
+-- Each thread's calls stand among the entries in the order of its commands, where their fronts say.
 pub record IsOutput (script : Reading) (replay : Replay) (text : List ℕ) : Type 0 where
   pub ends : ends_within script replay ≡ true
   pub told : text ≡ text_of_world (world_after script replay)
-  pub legal : IsLegal script text
-  pub shows : Shows (world_after script replay) (shown (world_after script replay).told.log)
+  pub accepted : IsAccepted opening (entries_of (world_after script replay))
+  pub allowed : IsAllowed script (changes (entries_of (world_after script replay))) (let w = world_after script replay in w.told.answers)
+  pub shows : Shows kit_at_rest steps_at_rest (world_after script replay) (entries_of (world_after script replay))
 
--- why a replay has no output: its steps were spent, and a party has not ended; or memory ran out
+-- A replay is too short: a party has not ended within its steps. With `solo` they are fewer than enough.
+pub record IsShort (script : Reading) (replay : Replay) : Type 0 where
+  pub on : ends_within script replay ≡ false
+  pub few : replay.schedule ≡ Solo → replay.steps < enough_steps script
+
+-- why a replay has no output: its steps were spent, and it is too short; or memory ran out
 abbrev pub IsStop : Reading → Replay → Status → Type 0
-IsStop script replay (StepsSpent n) = (n ≡ replay.steps) × (ends_within script replay ≡ false)
+IsStop script replay (StepsSpent n) = (n ≡ replay.steps) × IsShort script replay
 IsStop script replay OutOfMemory = Unit {0}
 IsStop script replay _ = ⊥
 
@@ -88,11 +94,11 @@ pub record ReadsUnbuilt (old new : Option (List ℕ)) : Type 0 where
   pub spells : IsScript bytes script
   pub unbuilt : ¬ (IsBuilt script)
 
--- the source was read to its end, and the parties of its script have not all ended within the steps
+-- the source was read to its end, and the replay is too short for its script
 pub record ReadsLonger (old new : Option (List ℕ)) (replay : Replay) : Type 0 where
   pub script : Reading
   pub read : ReadsScript old new script
-  pub on : ends_within script replay ≡ false
+  pub short : IsShort script replay
 
 -- The cause of a status with which nothing is written, where this replay was asked for. What is read is told by the bytes that the
 -- source has left before and after, and its count of faults before and after.

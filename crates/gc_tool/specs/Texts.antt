@@ -1,5 +1,6 @@
 -- The text of a replay: entries, commands whose tries were refused, answers and the end, a line each.
 use Rattle.std.specs.Prelude.{ℕ, ◌+◌, ◌/◌, ◌%◌, ◌==◌, ◌&&◌, if◌then◌else◌, List, [], ◌∷◌, ◌++◌, codes, decimal}
+use Rattle.heap_words.specs.declared.limits.TheConstants.{BIRTHS_BETWEEN_PASSES}
 use Rattle.std.specs.List.{flat_map}
 use Rattle.heap_history.specs.declared.call.Value.{Value}
 use Rattle.heap_history.specs.declared.call.Value.TheVariants as values
@@ -10,13 +11,13 @@ use Rattle.heap_history.specs.declared.call.Reply.TheVariants.{Made, Got, Wrote,
 use Rattle.heap_history.specs.declared.call.Entry.{Entry}
 use Rattle.heap_script.specs.declared.answer.Answer.{Answer}
 use Rattle.heap_script.specs.declared.answer.Answer.TheVariants as answers
-use Rattle.gc_cycle.specs.declared.told.Again.{Again}
+use Rattle.heap_script.specs.declared.told.Again.{Again}
 use Rattle.heap_script.specs.Words.{Word}
 use Rattle.heap_script.specs.Text.{line_text}
 
 -- #p.s: the s-th object of pass p
 abbrev pub object_word : ℕ → Word
-object_word birth = (35 ∷ decimal (birth / 524288)) ++ 46 ∷ decimal (birth % 524288)
+object_word birth = (35 ∷ decimal (birth / BIRTHS_BETWEEN_PASSES)) ++ 46 ∷ decimal (birth % BIRTHS_BETWEEN_PASSES)
 
 -- #p.s.f
 abbrev pub place_word : ℕ → ℕ → Word

@@ -8,6 +8,7 @@ ghost use Rattle.heap_script.specs.Words.{number_of};
 ghost use Rattle.gc_tool.specs.Forms as grammar;
 
 use crate::status::Status;
+use at_rest::AtRest;
 use gc_cycle::{Schedule, World};
 use heap_script::{ReadScriptFault, Script, number, read_script};
 use std::alloc::Global;
@@ -205,7 +206,7 @@ fn is_built(script: &Script) -> bool
     requires { Fits script.now }
     ensures { IsTrue result ↔ grammar.IsBuilt script.now }
 {
-    World::has_room_for(script)
+    World::<AtRest>::has_room_for(script)
 }
 
 /// The script that the bytes spell.

@@ -4,10 +4,11 @@ ghost use Rattle.std.specs.Prelude.{◌≡◌, ◌≢◌, ◌≤◌, ◌<◌, �
 ghost use Rattle.std.specs.Io.KnownBytes.{Appends};
 ghost use Rattle.heap_script.specs.Scripts.{Reading};
 ghost use Rattle.heap_script.specs.declared.fault.FaultKind.{FaultKind};
+ghost use Rattle.at_rest.specs.Knowing.{kit_at_rest};
 ghost use Rattle.gc_cycle.specs.Lawful.{Lawful};
 ghost use Rattle.gc_tool.specs.Outside.{Rose, Gave, AppendsPrefix};
 ghost use Rattle.gc_tool.specs.Forms.{request_of, IsBuilt};
-ghost use Rattle.gc_tool.specs.Runs.{IsOutput, IsStop, IsCause, ReadsScript, ReadsFault, ReadsUnbuilt, Asks, Spends, IsHonest, Answers, text_of_world};
+ghost use Rattle.gc_tool.specs.Runs.{IsOutput, IsStop, IsCause, ReadsScript, ReadsFault, ReadsUnbuilt, Asks, Spends, IsHonest, Answers, IsTextOf};
 
 use crate::forms::{Replay, read_built, replay_of};
 use crate::reading::{INPUT_LIMIT, read_all};
@@ -16,14 +17,18 @@ use crate::source::Source;
 use crate::status::Status;
 use crate::texts::print_replay;
 use crate::writing::give_all;
+use at_rest::AtRest;
 use gc_cycle::World;
 use heap_script::Script;
 use std::alloc::Global;
 
+/// No mark of a cycle is drawn yet, so every salt gives the same play.
+const SALT: u64 = 0;
+
 /// The text of a world's history, refused tries and answers.
-fn text_of(alloc: Global, world: &World) -> Result<Vec<u8>, Status>
-    requires { Lawful world.now }
-    ensures text { IfOk result (λ text. text.items ≡ text_of_world world.now) }
+fn text_of(alloc: Global, world: &World<AtRest>) -> Result<Vec<u8>, Status>
+    requires { Lawful kit_at_rest world.now }
+    ensures text { IfOk result (λ text. IsTextOf world.now text.items) }
     ensures memory { IfErr result (λ e. e ≡ Status.OutOfMemory) }
 {
     let history = world.history(alloc)?;
@@ -37,7 +42,7 @@ fn play(alloc: Global, script: &Script, replay: Replay) -> Result<Vec<u8>, Statu
     ensures output { IfOk result (λ text. IsOutput script.now replay text.items) }
     ensures stop { IfErr result (IsStop script.now replay) }
 {
-    let mut world = World::new(alloc, script)?;
+    let mut world = World::<AtRest>::new(alloc, script, SALT)?;
     match world.run(replay.schedule, replay.steps) {
         Ok(()) => text_of(alloc, &world),
         Err(spent) => Err(Status::StepsSpent { n: spent.n }),

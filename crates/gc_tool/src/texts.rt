@@ -7,14 +7,11 @@ ghost use Rattle.heap_script.specs.AnswerLists.{lists_of};
 ghost use Rattle.gc_tool.specs.Texts.{object_word, place_word, value_word, thread_of, call_words, entry_text, answer_words, answers_text, all_answers_text, again_text, replay_text};
 
 use call_steps::OutOfMemory;
-use gc_cycle::Again;
 use heap_history::{Call, Entry, Reply, Value};
-use heap_script::{Answer, Answers};
+use heap_script::{Again, Answer, Answers};
+use heap_words::BIRTHS_BETWEEN_PASSES;
 use itoa::Buffer;
 use std::alloc::{AllocError, Global};
-
-/// Birth numbers of a pass follow its number times this.
-const BIRTHS: u32 = 524_288;
 
 fn push_number(out: &mut Vec<u8>, n: u64) -> Result<(), AllocError>
     ensures { OnOk result (out.new.items ≡ out.old.items ++ decimal n) }
@@ -27,9 +24,9 @@ fn push_object(out: &mut Vec<u8>, birth: u32) -> Result<(), AllocError>
     ensures { OnOk result (out.new.items ≡ out.old.items ++ object_word birth) }
 {
     out.push(b'#')?;
-    push_number(out, u64::from(birth / BIRTHS))?;
+    push_number(out, u64::from(birth / BIRTHS_BETWEEN_PASSES))?;
     out.push(b'.')?;
-    push_number(out, u64::from(birth % BIRTHS))
+    push_number(out, u64::from(birth % BIRTHS_BETWEEN_PASSES))
 }
 
 fn push_place(out: &mut Vec<u8>, object: u32, field: u32) -> Result<(), AllocError>

@@ -5,20 +5,17 @@ ghost use Rattle.std.specs.List.{All};
 ghost use Rattle.heap_words.specs.Layouts.{IsLayout, IsPass};
 ghost use Rattle.heap_script.specs.Allowed.{commands_of};
 ghost use Rattle.heap_script.specs.Scripts.{Fits, CommandFits};
-ghost use Rattle.gc_cycle.specs.Commands.{commands_at};
+ghost use Rattle.heap_script.specs.Commands.{commands_at};
 ghost use Rattle.gc_cycle.specs.Lawful.{Lawful, rooms_of, room_of as room_of_command};
 ghost use Rattle.gc_cycle.specs.Worlds.{opening_words as opening_words_of, opening_registers as opening_registers_of, fresh_pass as fresh_pass_of, opening_pass as opening_pass_of, opening_passes as opening_passes_of, opening_state};
 
 use super::World;
-use crate::collector::{Awaited, CollectorMachine};
-use crate::commands::Commands;
-use crate::settling::{poll_before, retirement};
-use crate::told::Told;
-use barriers::{PassMachine, PassRecord, Room};
+use barriers::{Copier, PassMachine, PassRecord, Request, Room, start};
 use call_steps::{OutOfMemory, PlainWords, Step};
 use handshakes::PassView;
-use heap_script::{Command, Line, Script};
+use heap_script::{Command, Commands, Line, Script, Told};
 use heap_words::{FieldWord, Layout};
+use lawful_records::{Awaited, CollectorMachine};
 use object_headers::{Colour, Header, State};
 use space_reclaim::RegionWord;
 use std::alloc::Global;
@@ -64,8 +61,8 @@ fn opening_registers(layout: &Layout) -> [FieldWord; 8]
     registers
 }
 
-/// A pass that is in no machine.
-fn fresh_pass(layout: &Layout, party: u32) -> PassRecord
+/// A pass before its first machine begins.
+fn fresh_pass<R, W, E>(layout: &Layout, party: u32) -> PassRecord<R, W, E>
     requires { IsLayout layout.now }
     ensures { result ≡ fresh_pass_of layout.now party }
 {
@@ -88,33 +85,45 @@ fn fresh_pass(layout: &Layout, party: u32) -> PassRecord
 }
 
 /// A pass before its first command, or before it retires.
-fn opening_pass(layout: &Layout, commands: &Commands, party: u32) -> PassRecord
+fn opening_pass<P: Copier>(
+    layout: &Layout,
+    commands: &Commands,
+    party: u32,
+) -> PassRecord<P::Read, P::Write, P::Exchange>
+where
+    P::Read: Copy,
+    P::Write: Copy,
+    P::Exchange: Copy,
     requires layout { IsLayout layout.now }
     requires pass { IsPass layout.now party }
     requires commands { party ≤ length commands.now }
-    ensures { result ≡ opening_pass_of layout.now (commands_at commands.now party) party }
+    ensures { result ≡ opening_pass_of P.kit layout.now (commands_at commands.now party) party }
 {
     let pass = fresh_pass(layout, party);
-    let machine = if commands.count(party) == 0 {
-        retirement(layout, pass)
+    let request = if commands.count(party) > 0 {
+        Request::Poll
     } else {
-        poll_before(layout, pass)
+        Request::Retire
     };
-    PassRecord { machine, ..pass }
+    start::<P>(layout, pass, request).unwrap_or(pass)
 }
 
 /// The passes of all threads.
-fn opening_passes(
+fn opening_passes<P: Copier>(
     alloc: Global,
     layout: &Layout,
     commands: &Commands,
-) -> Result<Vec<PassRecord>, OutOfMemory>
+) -> Result<Vec<PassRecord<P::Read, P::Write, P::Exchange>>, OutOfMemory>
+where
+    P::Read: Copy,
+    P::Write: Copy,
+    P::Exchange: Copy,
     requires { length commands.now ≡ layout.now.passes }
-    ensures { IfOk result (λ passes. passes.items ≡ opening_passes_of layout.now 1 commands.now) }
+    ensures { IfOk result (λ passes. passes.items ≡ opening_passes_of P.kit layout.now 1 commands.now) }
 {
     let mut passes = Vec::new(alloc);
     for thread in 0..layout.passes() {
-        passes.push(opening_pass(layout, commands, thread + 1))?;
+        passes.push(opening_pass::<P>(layout, commands, thread + 1))?;
     }
     Ok(passes)
 }
@@ -152,7 +161,12 @@ fn room_of_thread(lines: &[Line], thread: u32) -> u32
     room
 }
 
-impl World {
+impl<P: Copier> World<P>
+where
+    P::Read: Copy,
+    P::Write: Copy,
+    P::Exchange: Copy,
+{
     /// Whether the objects of each thread fit one region.
     pub fn has_room_for(script: &Script) -> bool
         requires { Fits script.now }
@@ -168,18 +182,19 @@ impl World {
         true
     }
 
-    /// The world of a script at its start. All memory is taken here.
-    pub fn new(alloc: Global, script: &Script) -> Result<World, OutOfMemory>
+    /// The world of a script at its start. All memory is taken here. The salt draws the marks of the cycles; no
+    /// cycle has one yet, so the world does not keep it.
+    pub fn new(alloc: Global, script: &Script, _salt: u64) -> Result<World<P>, OutOfMemory>
         requires fits { Fits script.now }
         requires rooms { (t : ℕ) → IsPass script.now.layout t
             → rooms_of (commands_of t script.now.lines) ≤ 64 }
-        ensures opening { IfOk result (λ w. w ≡ opening_state script.now) }
-        ensures lawful { IfOk result Lawful }
+        ensures opening { IfOk result (λ w. w ≡ opening_state P.kit script.now) }
+        ensures lawful { IfOk result (λ w. Lawful P.kit w) }
     {
         let layout = *layout_of(script);
         let words = opening_words(alloc, &layout)?;
         let commands = Commands::of_lines(alloc, &script.lines, layout.passes())?;
-        let passes = opening_passes(alloc, &layout, &commands)?;
+        let passes = opening_passes::<P>(alloc, &layout, &commands)?;
         let collector = CollectorMachine::new(&layout, script.cycles);
         let told = Told::opening(alloc, &commands)?;
         Ok(World {

@@ -1,48 +1,59 @@
 //! The turns of the parties.
 
-ghost use Rattle.std.specs.Prelude.{◌≡◌, ◌<◌, ◌≤◌, ◌^◌, ◌↔◌, IsTrue, true, false, length, IsOk, IfErr};
+ghost use Rattle.std.specs.Prelude.{◌≡◌, ◌≢◌, ◌<◌, ◌≤◌, ◌^◌, ◌↔◌, IsTrue, true, false, length, IsOk, IfErr};
 ghost use Rattle.std.specs.List.{All};
+ghost use Rattle.call_steps.specs.declared.step.Step.TheVariants.{Ended as StepEnded};
+ghost use Rattle.barriers.specs.declared.pass.PassMachine.TheVariants.{Retired};
 ghost use Rattle.gc_cycle.specs.Lawful.{Lawful};
-ghost use Rattle.gc_cycle.specs.Worlds.{IsParty, next_of, turn_of, turn_said, can_step as can_step_in, rest_said, all_idle as all_idle_in, is_collector as is_collector_in, played, steps_in};
+ghost use Rattle.gc_cycle.specs.Worlds.{IsParty, next_of, turn_of, turn_said, can_step as can_step_in, is_ended as is_ended_of, rest_said, all_retired as all_retired_in, is_collector as is_collector_in, played, steps_in};
+ghost use Rattle.lawful_records.specs.HeaderChanges.{HeadersChange};
 ghost use Rattle.gc_cycle.specs.Runs.{Moves, IsTo, ready_of, is_over, run_of};
 
-use super::{Turn, World, is_done, is_idle};
+use super::{Turn, World};
 use crate::schedule::{Chooser, Schedule, StepsSpent};
+use crate::stepping::Steps;
 use arrayvec::ArrayVec;
+use barriers::{Copier, PassMachine};
 use call_steps::{Machine, Step};
 
-impl World {
+/// Whether a machine that asks for this takes no step.
+fn is_ended(step: Step) -> bool
+    ensures { result ≡ is_ended_of step }
+{
+    matches!(step, Step::Ended)
+}
+
+fn is_retired<R, W, E>(machine: &PassMachine<R, W, E>) -> bool
+    ensures { IsTrue result ↔ (machine.now ≡ Retired) }
+{
+    matches!(machine, PassMachine::Retired)
+}
+
+impl<P: Copier> World<P>
+where
+    P::Read: Copy,
+    P::Write: Copy,
+    P::Exchange: Copy,
+{
     /// Whether the party is the collector.
     fn is_collector(&self, party: u32) -> bool
-        ensures { result ≡ is_collector_in self.now party }
+        ensures { result ≡ is_collector_in P.kit ⟦<P as Steps>⟧.by self.now party }
     {
         party > self.layout.passes()
     }
 
-    /// Whether the party's turn takes a step.
-    fn can_step(&self, party: u32) -> bool
-        requires passes { length self.now.passes ≡ self.now.layout.passes }
-        requires party { IsParty self.now.layout party }
-        ensures { result ≡ can_step_in self.now party }
-    {
-        if self.is_collector(party) {
-            return !is_done(&self.collector);
-        }
-        !is_idle(&self.passes[party as usize - 1].machine)
-    }
-
     /// Whether every thread has ended.
-    fn all_idle(&self) -> bool
-        ensures { result ≡ all_idle_in self.now.passes }
+    fn all_retired(&self) -> bool
+        ensures { result ≡ all_retired_in P.kit ⟦<P as Steps>⟧.by self.now }
     {
-        self.passes.iter().all(|pass| is_idle(&pass.machine))
+        self.passes.iter().all(|pass| is_ended(pass.machine.ask()))
     }
 
     /// What the turn of a party says of it where it takes no step.
     fn rest_said(&self, party: u32) -> Turn
-        ensures { result ≡ rest_said self.now party }
+        ensures { result ≡ rest_said P.kit ⟦<P as Steps>⟧.by self.now party }
     {
-        if self.is_collector(party) && !self.all_idle() {
+        if self.is_collector(party) && !self.all_retired() {
             Turn::Idle
         } else {
             Turn::Ended
@@ -51,7 +62,7 @@ impl World {
 
     /// The step that the party's next turn takes, and `Ended` where the party waits or has ended.
     pub fn next(&self, party: u32) -> Step
-        ensures { result ≡ next_of self.now party }
+        ensures { result ≡ next_of P.kit ⟦<P as Steps>⟧.by self.now party }
     {
         if self.is_collector(party) {
             return self.collector.ask();
@@ -62,47 +73,49 @@ impl World {
         }
     }
 
-    /// The party takes its next step.
-    fn step(&mut self, party: u32)
-        requires lawful { Lawful self.old }
+    /// The party takes its next step, which is this one.
+    fn step(&mut self, party: u32, step: Step)
+        requires lawful { Lawful P.kit self.old }
         requires party { IsParty self.old.layout party }
-        requires can { can_step_in self.old party ≡ true }
-        ensures { self.new ≡ turn_of self.old party }
+        requires next { step ≡ next_of P.kit ⟦<P as Steps>⟧.by self.old party }
+        requires goes_on { step ≢ StepEnded }
+        ensures { self.new ≡ turn_of P.kit ⟦<P as Steps>⟧.by self.old party }
     {
         if self.is_collector(party) {
-            self.collect();
+            self.collect(step);
         } else {
-            self.take(party);
+            self.take(party, step);
         }
     }
 
     /// Takes the party's next step, and what follows from it without a further step. Takes no memory. The collector
     /// waits where its cycles are done and a thread has not ended.
     pub fn turn(&mut self, party: u32) -> Turn
-        requires lawful { Lawful self.old }
+        requires lawful { Lawful P.kit self.old }
         requires party { IsParty self.old.layout party }
-        ensures turn { self.new ≡ turn_of self.old party }
-        ensures said { result ≡ turn_said self.old party }
-        ensures lawful { Lawful self.new }
+        ensures turn { self.new ≡ turn_of P.kit ⟦<P as Steps>⟧.by self.old party }
+        ensures said { result ≡ turn_said P.kit ⟦<P as Steps>⟧.by self.old party }
+        ensures lawful { Lawful P.kit self.new }
         ensures layout { self.new.layout ≡ self.old.layout }
-        ensures moves { Moves self.old party self.new }
+        ensures moves { Moves P.kit ⟦<P as Steps>⟧.by self.old party self.new }
+        ensures headers { HeadersChange P.KIND self.old.layout self.old.words self.new.words }
     {
-        if !self.can_step(party) {
+        let step = self.next(party);
+        if is_ended(step) {
             return self.rest_said(party);
         }
-        let step = self.next(party);
-        self.step(party);
+        self.step(party, step);
         Turn::Took(step)
     }
 
     /// Turns in this order; how many took a step.
     pub fn play(&mut self, parties: &[u32]) -> u32
-        requires lawful { Lawful self.old }
+        requires lawful { Lawful P.kit self.old }
         requires parties { All (IsParty self.old.layout) parties.now }
         requires few { length parties.now < 2 ^ 31 }
-        ensures turns { self.new ≡ played self.old parties.now }
-        ensures count { result ≡ steps_in self.old parties.now }
-        ensures lawful { Lawful self.new }
+        ensures turns { self.new ≡ played P.kit ⟦<P as Steps>⟧.by self.old parties.now }
+        ensures count { result ≡ steps_in P.kit ⟦<P as Steps>⟧.by self.old parties.now }
+        ensures lawful { Lawful P.kit self.new }
         ensures layout { self.new.layout ≡ self.old.layout }
     {
         let mut steps = 0;
@@ -116,17 +129,17 @@ impl World {
 
     /// Whether the party's next step is this one.
     fn is_at(&self, party: u32, step: Step) -> bool
-        ensures { IsTrue result ↔ (next_of self.now party ≡ step) }
+        ensures { IsTrue result ↔ (next_of P.kit ⟦<P as Steps>⟧.by self.now party ≡ step) }
     {
         self.next(party) == step
     }
 
     /// Takes the party's turns until its next step is `step`, at most `limit` turns. Whether it is.
     pub fn to(&mut self, party: u32, step: Step, limit: u32) -> bool
-        requires lawful { Lawful self.old }
+        requires lawful { Lawful P.kit self.old }
         requires party { IsParty self.old.layout party }
-        ensures to { IsTo self.old party step limit self.new result }
-        ensures lawful { Lawful self.new }
+        ensures to { IsTo P.kit ⟦<P as Steps>⟧.by self.old party step limit self.new result }
+        ensures lawful { Lawful P.kit self.new }
         ensures layout { self.new.layout ≡ self.old.layout }
     {
         for _ in 0..limit {
@@ -138,10 +151,22 @@ impl World {
         self.is_at(party, step)
     }
 
+    /// Whether the party's turn takes a step. A thread is not asked for it: it takes one until it has retired.
+    fn can_step(&self, party: u32) -> bool
+        requires lawful { Lawful P.kit self.now }
+        requires party { IsParty self.now.layout party }
+        ensures { result ≡ can_step_in P.kit ⟦<P as Steps>⟧.by self.now party }
+    {
+        if self.is_collector(party) {
+            return !is_ended(self.collector.ask());
+        }
+        !is_retired(&self.passes[party as usize - 1].machine)
+    }
+
     /// The parties that can step, in rising order.
     fn ready(&self) -> ArrayVec<u32, 9>
-        requires { Lawful self.now }
-        ensures { result.items ≡ ready_of self.now }
+        requires { Lawful P.kit self.now }
+        ensures { result.items ≡ ready_of P.kit ⟦<P as Steps>⟧.by self.now }
     {
         let mut ready = ArrayVec::new();
         for index in 0..self.layout.passes() + 1 {
@@ -155,12 +180,14 @@ impl World {
 
     /// Takes steps of the parties that the schedule names until all have ended, at most so many.
     pub fn run(&mut self, schedule: Schedule, steps: u64) -> Result<(), StepsSpent>
-        requires lawful { Lawful self.old }
-        ensures taken { self.new ≡ run_of schedule steps self.old }
-        ensures ended { IsOk result ↔ (is_over self.new ≡ true) }
-        ensures spent { IfErr result (λ e. (e ≡ record { n = steps }) × (is_over self.new ≡ false)) }
-        ensures lawful { Lawful self.new }
+        requires lawful { Lawful P.kit self.old }
+        ensures taken { self.new ≡ run_of P.kit ⟦<P as Steps>⟧.by schedule steps self.old }
+        ensures ended { IsOk result ↔ (is_over P.kit ⟦<P as Steps>⟧.by self.new ≡ true) }
+        ensures spent { IfErr result (λ e. (e ≡ record { n = steps })
+            × (is_over P.kit ⟦<P as Steps>⟧.by self.new ≡ false)) }
+        ensures lawful { Lawful P.kit self.new }
         ensures layout { self.new.layout ≡ self.old.layout }
+        ensures commands { self.new.commands ≡ self.old.commands }
     {
         let mut chooser = Chooser::new(schedule);
         for _ in 0..steps {

@@ -1,31 +1,38 @@
 //! What a world shows.
 
-ghost use Rattle.std.specs.Prelude.{◌≡◌, ◌≢◌, ◌≤◌, ◌⊎◌, ◌↔◌, true, IfOk};
+ghost use Rattle.std.specs.Prelude.{◌≡◌, ◌≢◌, ◌≤◌, ◌⊎◌, ◌↔◌, IfOk};
 ghost use Rattle.heap_words.specs.Layouts.{IsPass, ack_at};
 ghost use Rattle.call_steps.specs.StepLaws.{reading};
 ghost use Rattle.handshakes.specs.PhaseWords.{retired_word};
-ghost use Rattle.gc_cycle.specs.Collectors.{announced_of, before_of, passed_of};
-ghost use Rattle.gc_cycle.specs.Worlds.{pass_at, is_idle};
+ghost use Rattle.barriers.specs.declared.pass.PassMachine.TheVariants.{Retired};
+ghost use Rattle.lawful_records.specs.Collectors.{announced_of, before_of, passed_of};
 ghost use Rattle.heap_script.specs.AnswerLists.{lists_of};
+ghost use Rattle.gc_cycle.specs.Worlds.{pass_at};
 ghost use Rattle.gc_cycle.specs.Lawful.{Lawful};
-ghost use Rattle.gc_cycle.specs.Runs.{Shows};
+ghost use Rattle.gc_cycle.specs.Shows.{Shows};
 
 use super::World;
-use crate::arranging::arrange;
-use crate::collector::Awaited;
-use crate::told::Again;
+use crate::stepping::Steps;
+use barriers::Copier;
 use call_steps::{OutOfMemory, PlainWords};
-use heap_history::Entry;
-use heap_script::Answers;
+use heap_history::{Entry, arrange};
+use heap_script::{Again, Answers};
 use heap_words::Layout;
+use lawful_records::Awaited;
 use std::alloc::Global;
 
-impl World {
-    /// The history: each change in the order of its deciding step, each look behind the last change of its front,
-    /// and looks with one front in the order in which they ended.
+impl<P: Copier> World<P>
+where
+    P::Read: Copy,
+    P::Write: Copy,
+    P::Exchange: Copy,
+{
+    /// The history: each change in the order of its deciding step, each look after the last change of its front, and
+    /// looks with one front in the order in which they ended. Where all parties have ended, the answers are allowed for
+    /// its changes.
     pub fn history(&self, alloc: Global) -> Result<Vec<Entry>, OutOfMemory>
-        requires { Lawful self.now }
-        ensures { IfOk result (λ entries. Shows self.now entries.items) }
+        requires { Lawful P.kit self.now }
+        ensures { IfOk result (λ entries. Shows P.kit ⟦<P as Steps>⟧.by self.now entries.items) }
     {
         arrange(alloc, self.told.log())
     }
@@ -40,10 +47,10 @@ impl World {
     /// What a thread has acknowledged: Retired exactly where it has ended, and otherwise the announced phase word or the
     /// one announced before it. It is the announced one where the collector's await has passed the thread.
     pub fn acknowledged(&self, thread: u32) -> u64
-        requires lawful { Lawful self.now }
+        requires lawful { Lawful P.kit self.now }
         requires thread { IsPass self.now.layout thread }
         ensures word { result ≡ reading self.now.words (ack_at thread) }
-        ensures retired { (result ≡ retired_word) ↔ (is_idle (pass_at self.now thread).machine ≡ true) }
+        ensures retired { (result ≡ retired_word) ↔ ((pass_at self.now thread).machine ≡ Retired) }
         ensures running { result ≢ retired_word
             → (result ≡ announced_of self.now.collector) ⊎ (result ≡ before_of self.now.collector) }
         ensures passed { result ≢ retired_word → thread ≤ passed_of self.now.collector

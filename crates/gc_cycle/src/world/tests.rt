@@ -3,10 +3,12 @@
 ghost use Rattle.std.specs.Prelude.{◌≡◌, ◌≤◌, ◌<◌, length, IfOk};
 ghost use Rattle.std.specs.List.{All};
 ghost use Rattle.heap_script.specs.Scripts.{Fits, LineFits, CommandFits, OperandFits};
+ghost use Rattle.at_rest.specs.Knowing.{kit_at_rest};
 ghost use Rattle.gc_cycle.specs.Lawful.{Lawful};
 
 use super::*;
 use crate::schedule::{Schedule, StepsSpent};
+use at_rest::AtRest;
 use call_steps::OutOfMemory;
 use heap_history::{Call, Entry, Reply, Value, check_history};
 use heap_script::{Line, Script, read_script};
@@ -18,18 +20,23 @@ use std::process::Abort;
 use std::test::Fail;
 
 /// The world of a script.
-fn world_of(rt: &impl Abort, alloc: Global, script: &Script) -> Result<World, OutOfMemory>
+fn world_of(rt: &impl Abort, alloc: Global, script: &Script) -> Result<World<AtRest>, OutOfMemory>
     requires { Fits script.now }
-    ensures lawful { IfOk result Lawful }
+    ensures lawful { IfOk result (λ w. Lawful kit_at_rest w) }
     ensures layout { IfOk result (λ w. w.layout ≡ script.now.layout) }
 {
-    assert!(rt; World::has_room_for(script));
-    World::new(alloc, script)
+    assert!(rt; World::<AtRest>::has_room_for(script));
+    World::<AtRest>::new(alloc, script, 0)
 }
 
 /// The world of the text of a script of so many threads.
-fn world_of_text(rt: &impl Abort, alloc: Global, threads: u32, text: &[u8]) -> Result<World, Fail>
-    ensures { IfOk result (λ w. Lawful w × (w.layout.passes ≡ threads)) }
+fn world_of_text(
+    rt: &impl Abort,
+    alloc: Global,
+    threads: u32,
+    text: &[u8],
+) -> Result<World<AtRest>, Fail>
+    ensures { IfOk result (λ w. Lawful kit_at_rest w × (w.layout.passes ≡ threads)) }
 {
     assert!(rt; text.len() < 1_000);
     let script = read_script(alloc, text)?;
@@ -40,7 +47,7 @@ fn world_of_text(rt: &impl Abort, alloc: Global, threads: u32, text: &[u8]) -> R
 }
 
 /// A thread has these answers.
-fn assert_answers(rt: &impl Abort, world: &World, thread: usize, wanted: &[Answer]) {
+fn assert_answers(rt: &impl Abort, world: &World<AtRest>, thread: usize, wanted: &[Answer]) {
     let lists = world.answers().lists.as_slice();
     assert!(rt; 1 <= thread && thread <= lists.len());
     assert_eq!(rt; lists[thread - 1].as_slice(), wanted, "of thread {thread}");
@@ -138,7 +145,7 @@ fn goes_to_a_step(rt: HostRuntime) -> Result<(), Fail> {
     assert_eq!(rt; world.words().word(at), 5);
     assert_eq!(rt; world.next(1), Step::Load { at: 0 });
 
-    // Behind the poll eight registers are stored, and the acknowledgement.
+    // After the poll eight registers are stored, and the acknowledgement.
     assert!(rt; !world.to(1, Step::Ended, 9));
     assert!(rt; world.to(1, Step::Ended, 1));
     Ok(())
@@ -273,12 +280,12 @@ fn a_thread_retires_between_announcements(rt: HostRuntime) -> Result<(), Fail> {
     Ok(())
 }
 
-/// The collector announces this word next, and two turns of the thread behind it acknowledge it: the load of the phase
+/// The collector announces this word next, and two turns of the thread after it acknowledge it: the load of the phase
 /// word and the store.
-fn expect_acknowledged(rt: &impl Abort, world: &mut World, put: u64)
-    requires lawful { Lawful world.old }
+fn expect_acknowledged(rt: &impl Abort, world: &mut World<AtRest>, put: u64)
+    requires lawful { Lawful kit_at_rest world.old }
     requires passes { world.old.layout.passes ≡ 1 }
-    ensures lawful { Lawful world.new }
+    ensures lawful { Lawful kit_at_rest world.new }
     ensures passes { world.new.layout.passes ≡ 1 }
 {
     let acknowledgement = 3;
@@ -311,9 +318,9 @@ fn each_announcement_is_acknowledged(rt: HostRuntime) -> Result<(), Fail> {
     Ok(())
 }
 
-/// The awaits of a cycle that is played behind a write have ended where there was one change.
+/// The awaits of a cycle that is played after a write have ended where there was one change.
 #[test]
-fn awaits_end_behind_what_was_changed(rt: HostRuntime) -> Result<(), Fail> {
+fn awaits_end_after_what_was_changed(rt: HostRuntime) -> Result<(), Fail> {
     let mut world = world_of_text(
         &rt,
         rt.alloc(),

@@ -1,20 +1,23 @@
-use Rattle.std.proofs.Common.{◌∙◌, sym}
-use Rattle.gc_cycle.proofs.Playing.{is_running, is_playing, party_is_pass}
-use Rattle.gc_cycle.proofs.Taking.{can_take, can_collect}
+use Rattle.std.proofs.Common.{◌∙◌, sym, subst, length}
+use Rattle.call_steps.specs.Steps.{IsInside}
+use Rattle.gc_cycle.specs.Steppings.{stepping_of}
+use Rattle.gc_cycle.proofs.Playing.{asks_by, collects_by, party_is_pass}
+use Rattle.gc_cycle.proofs.Acknowledging.{can_collect}
+use Rattle.gc_cycle.proofs.Turning.{can_take}
 use Rattle.gc_cycle.proofs.world.World.step.Goals as goal
 
-pub take-requires : goal.take-requires
-take-requires c =
+pub take-requires-clause-can : goal.take-requires-clause-can
+take-requires-clause-can g c =
+    let by = stepping_of g.P.Read.Machine.asks g.P.Write.Machine.asks g.P.Exchange.Machine.asks g.P.Move.Machine.asks g.P.Read.Machine.fed g.P.Write.Machine.fed g.P.Exchange.Machine.fed g.P.Move.Machine.fed g.P.Read.Watched.front g.P.Write.Watched.front g.P.Exchange.Watched.front g.P.Read.CallMachine.steps_left g.P.Write.CallMachine.steps_left g.P.Exchange.CallMachine.steps_left in
     let w = c.args.self.now in
     let passes = sym c.is_collector.ensures ∙ c.if-is_collector.false in
-    can_take w c.requires.lawful c.args.party (party_is_pass w c.args.party c.requires.party passes) (is_running w c.args.party passes c.requires.can)
+    let asks = asks_by g.P.Copier.kit by w c.args.party c.args.step c.requires.next passes in
+    can_take g.P.Copier.kit by g.met.P.Copier.laws w c.requires.lawful c.args.party (party_is_pass g.P.Copier.kit by w c.args.party c.requires.party passes) (λ e. c.requires.goes_on (asks ∙ e))
 
 pub collect-requires-clause-inside : goal.collect-requires-clause-inside
-collect-requires-clause-inside c =
+collect-requires-clause-inside g c =
+    let by = stepping_of g.P.Read.Machine.asks g.P.Write.Machine.asks g.P.Exchange.Machine.asks g.P.Move.Machine.asks g.P.Read.Machine.fed g.P.Write.Machine.fed g.P.Exchange.Machine.fed g.P.Move.Machine.fed g.P.Read.Watched.front g.P.Write.Watched.front g.P.Exchange.Watched.front g.P.Read.CallMachine.steps_left g.P.Write.CallMachine.steps_left g.P.Exchange.CallMachine.steps_left in
     let w = c.args.self.now in
-    (can_collect w c.requires.lawful (is_playing w c.args.party (sym c.is_collector.ensures ∙ c.if-is_collector.true) c.requires.can)).0
-
-pub collect-requires-clause-goes_on : goal.collect-requires-clause-goes_on
-collect-requires-clause-goes_on c =
-    let w = c.args.self.now in
-    (can_collect w c.requires.lawful (is_playing w c.args.party (sym c.is_collector.ensures ∙ c.if-is_collector.true) c.requires.can)).1
+    let collects = sym c.is_collector.ensures ∙ c.if-is_collector.true in
+    let asks = collects_by g.P.Copier.kit by w c.args.party c.args.step c.requires.next collects in
+    subst (IsInside (length w.words)) (sym asks) (can_collect g.P.Copier.kit w c.requires.lawful)

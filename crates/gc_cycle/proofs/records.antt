@@ -1,0 +1,14 @@
+pub mod Changes
+pub mod Coming
+pub mod Doing
+pub mod Ends
+pub mod Following
+pub mod Growing
+pub mod Heads
+pub mod Leaving
+pub mod Places
+pub mod Shares
+pub mod Stepped
+pub mod Stepping
+pub mod TurnLaws
+pub mod Turns

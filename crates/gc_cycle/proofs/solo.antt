@@ -1,0 +1,5 @@
+pub mod Alone
+pub mod CollectorEnds
+pub mod Left
+pub mod Standing
+pub mod Turns
