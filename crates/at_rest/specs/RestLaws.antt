@@ -167,6 +167,21 @@ module _ (c : Cycle) (side : Side) (h : List Call) (s : Spot) (x : Here) where
       by_seal None is = Before-refl h
       by_seal (Some early) is = seals early is
 
+  -- nothing is sealed, so a look at the field has seen all changes
+  front_now : (f : Front) → x.seal ≡ None → Before side.seen h → Before side.seen (front f x.seal h side.seen)
+  front_now Stays none past = Before-refl side.seen
+  front_now Now none past = past
+  front_now SealedOrNow none past = rw none past
+
+  front_later : (k : Known) (found : Finds) → RestOwn c side x k → (has_field k ≡ true → x.seal ≡ None) → Before side.seen h → Before side.seen (front (looks side.own k found) x.seal h side.seen)
+  front_later (Loads z t) found own none past = front_now (looks side.own (Loads z t) found) (none refl) past
+  front_later (Swaps z t u n) found own none past = front_now (looks side.own (Swaps z t u n) found) (none refl) past
+  front_later (Loads_header z t) found own none past = Before-refl side.seen
+  front_later (Stores z word) found own none past = Before-refl side.seen
+  front_later (Follows z t m) found own none past = Before-refl side.seen
+  front_later (Over z t end) found own none past = Before-refl side.seen
+  front_later k found own none past = absurd own
+
 -- no header is exchanged
 owned_head : (c : Cycle) (side : Side) (x : Here) (k : Known) (tagged : Header) → RestOwn c side x k → head_of k ≡ Some tagged → ⊥
 owned_head c side x (Keeps s t g) tagged own is = absurd own
@@ -190,6 +205,7 @@ step c side h s x w k seals a =
       aim = λ to is. rest_aim c side x w k to a.own is;
       wide = λ wide is. absurd (rest_wide c side x k wide a.own is);
       past = front_past c side h s x (looks side.own k found) a.past seals;
+      later = front_later c side h s x k found a.own (λ has. (shape has).seal) a.past;
     }
 
 -- ---- the objects, the collector's other steps, and moves

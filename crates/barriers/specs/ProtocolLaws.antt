@@ -50,7 +50,9 @@ pub record StepEnd (P : Protocol) (c : Cycle) (side : Side) (h : List Call) (s :
   pub head : (tagged : Header) → head_of (P.fed side.acked side.own k found) ≡ Some tagged → tagged ≡ tagged_here s x
   pub aim : (to : ℕ) → copy_of k ≡ Some to → (to ≡ x.to) × (zone c.mark x.state x.word x.status ≡ Copied)
   pub wide : (wide : ℕ) → wide_of k ≡ Some wide → (wide ≡ x.wide) × (wide ≢ 0)
+  -- a look sees no more than there is, and no less than was seen
   pub past : Before (front (looks side.own k found) x.seal h side.seen) h
+  pub later : Before side.seen (front (looks side.own k found) x.seal h side.seen)
 
 -- what any step of it is that goes on so, whatever it finds
 pub record GoesTo (own : Option FieldWord) (k : Known) (found : Finds) (next : Known) : Type 0 where

@@ -54,13 +54,13 @@ module _ {R W E M : Type 0} (kit : Kit R W E M) where
     Stood = let records = lw.records in IsParty kit w.layout records.collector records.space records.notices
 
     abbrev collects : Party R W E
-    collects = party.Collector (record { machine = w.collector; awaited = w.awaited })
+    collects = party.Collector (record { machine = w.collector; awaited = w.awaited; sealed = [] })
 
     abbrev read_off : PassRecord R W E → Party R W E
     read_off p = party.Pass (known_in w p)
 
     -- what its record says of the collector
-    pub collector_record : (let records = lw.records in IsCollectorRecord kit w.layout records.collector records.space (record { machine = w.collector; awaited = w.awaited }))
+    pub collector_record : (let records = lw.records in IsCollectorRecord kit w.layout records.collector records.space (record { machine = w.collector; awaited = w.awaited; sealed = [] }))
     collector_record = let records = lw.records in last_of Stood (map read_off w.passes) collects records.each
 
     -- what a thread's record says of it

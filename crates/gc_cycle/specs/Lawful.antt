@@ -58,7 +58,7 @@ module _ {R W E : Type 0} where
   }
 
   abbrev pub records_in : State R W E → List (Party R W E)
-  records_in w = map (λ p. party.Pass (known_in w p)) w.passes ++ party.Collector (record { machine = w.collector; awaited = w.awaited }) ∷ []
+  records_in w = map (λ p. party.Pass (known_in w p)) w.passes ++ party.Collector (record { machine = w.collector; awaited = w.awaited; sealed = [] }) ∷ []
 
 -- ---- a script whose objects fit one region of each thread
 

@@ -5,3 +5,4 @@ pub mod FieldSteps
 pub mod InCalls
 pub mod LinkSteps
 pub mod MachineSteps
+pub mod Sights

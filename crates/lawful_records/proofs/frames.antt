@@ -2,5 +2,6 @@ pub mod Hearing
 pub mod Machines
 pub mod PassStays
 pub mod Regions
+pub mod SealStays
 pub mod SeenTurns
 pub mod Unborn

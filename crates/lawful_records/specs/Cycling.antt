@@ -1,5 +1,5 @@
 -- What the collector's machine says of the cycle.
-use Rattle.std.specs.Prelude.{Bool, true, false, None}
+use Rattle.std.specs.Prelude.{true, false, None}
 use Rattle.handshakes.specs.Handshakes.{Announced}
 use Rattle.barriers.specs.Stances.{stance_at}
 use Rattle.barriers.specs.Cycles.{Told, Nobody, Anybody, Everybody, Cycle}
@@ -34,20 +34,11 @@ told_by (collector.Announce s) = told_before s.announcement
 told_by (collector.Await s pass m) = told_awaiting s.announcement
 told_by (collector.Done s) = Nobody
 
--- words of moved originals may be read: until all passes have answered Fix
-abbrev pub is_late : Announcement → Bool
-is_late Free = false
-is_late announcement = true
-
-abbrev pub late_by : CollectorMachine → Bool
-late_by (collector.Announce s) = is_late s.announcement
-late_by (collector.Await s pass m) = is_late s.announcement
-late_by (collector.Done s) = true
-
--- the cycle as copiers see it; no mark is drawn yet, and no search ends clear
+-- The cycle as copiers see it. Nothing that has moved is given up yet, so its words may be read at all times; no mark is drawn, and no
+-- search ends clear.
 abbrev pub cycle_of : CollectorMachine → Cycle
 cycle_of k = record {
-  late = late_by k;
+  late = true;
   phase = stance_at (announced_of k);
   told = told_by k;
   mark = None;

@@ -1,16 +1,17 @@
 -- What the turn of one party leaves of what the others stand on.
-use Rattle.std.specs.Prelude.{◌≡◌, ◌≢◌, ℕ, ◌⊎◌, IsTrue, List, ◌∷◌}
+use Rattle.std.specs.Prelude.{◌≡◌, ◌≢◌, ℕ, ◌⊎◌, IsTrue, List, ◌∷◌, None}
 use Rattle.heap_words.specs.Layouts.{Sizes, IsPass}
 use Rattle.space_reclaim.specs.OwnRegions.{IsOwn}
 use Rattle.heap_history.specs.FixedHeaps.{answer}
 use Rattle.heap_history.specs.Histories.{pass_of, is_change}
 use Rattle.heap_history.specs.NewestFirst.{heap_of_history}
 use Rattle.heap_history.specs.declared.call.Call.{Call}
-use Rattle.barriers.specs.States.{IsLive}
+use Rattle.barriers.specs.States.{Absent, Plain, Kept, Tagged, IsLive}
 use Rattle.barriers.specs.Spaces.{Space, Holds}
 use Rattle.barriers.specs.Says.{Notices}
 use Rattle.barriers.specs.Cycles.{Cycle, Side}
 use Rattle.barriers.specs.Knowns.{Known}
+use Rattle.barriers.specs.Events.{Keep}
 use Rattle.barriers.specs.Protocols.{Protocol}
 use Rattle.barriers.specs.Objects.{IsSide, IsCall}
 use Rattle.barriers.specs.Kits.{Kit}
@@ -45,6 +46,18 @@ pub record SameRegion (s t : Space) (region : ℕ) : Type 0 where
   pub word : t.region region ≡ s.region region
   pub ends : t.ends region ≡ s.ends region
 
+-- what is there has the same header and the same seal
+pub record IsSameHead (s t : Space) (at : ℕ) : Type 0 where
+  pub state : t.state at ≡ s.state at
+  pub seal : t.seal at ≡ s.seal at
+  pub head : s.state at ≢ Absent → (t.birth at ≡ s.birth at) × (t.len at ≡ s.len at) × (t.colour at ≡ s.colour at)
+
+-- What a turn of a pass leaves at an address: what is there; or a tag has become Kept; or an object begins there.
+pub data Left (P : Protocol) (s t : Space) (at : ℕ) : Type 0 where
+  Same : IsSameHead s t at → Left P s t at
+  Untagged : P.Makes Keep → s.state at ≡ Tagged → t.state at ≡ Kept → t.seal at ≡ s.seal at → Left P s t at
+  Born : s.state at ≡ Absent → t.state at ≡ Plain → t.seal at ≡ None → Left P s t at
+
 module _ {R W E M : Type 0} (kit : Kit R W E M) where
   -- The mover is pass m, or the collector with 0; the space goes from s to t, and the notices from n to o.
   pub record Beside (l : Sizes) (c : Cycle) (m : ℕ) (s t : Space) (n o : Notices) : Type 0 where
@@ -54,4 +67,5 @@ module _ {R W E M : Type 0} (kit : Kit R W E M) where
     pub phase : o.phase ≡ n.phase
     pub mark : o.mark ≡ n.mark
     pub regions : (pass region : ℕ) → IsPass l pass → pass ≢ m → IsOwn l pass region → SameRegion s t region
+    pub left : (at : ℕ) → Left kit.protocol s t at
     pub history : Grows m s.history t.history

@@ -20,12 +20,12 @@ use Rattle.handshakes.specs.declared.retire.RetireMachine.{RetireMachine}
 use Rattle.handshakes.specs.declared.retire.RetireMachine.TheVariants as retire
 use Rattle.barriers.specs.declared.pass.PassMachine.{PassMachine}
 use Rattle.barriers.specs.declared.pass.PassMachine.TheVariants as machine
-use Rattle.barriers.specs.States.{State, Absent, Plain, On}
+use Rattle.barriers.specs.States.{IsLive, On}
 use Rattle.barriers.specs.Spaces.{Space, Holds}
 use Rattle.barriers.specs.Says.{Notices, Says}
 use Rattle.barriers.specs.Rows.{Rows}
 use Rattle.barriers.specs.Values.{value_of}
-use Rattle.barriers.specs.Cycles.{Cycle, Handshaken}
+use Rattle.barriers.specs.Cycles.{Cycle, IsMoving, Handshaken}
 use Rattle.barriers.specs.Knowns.{Task, Reads, Writes, Exchanges, task_of}
 use Rattle.barriers.specs.Objects.{AreObjects, IsSide, IsCall, HasLens}
 use Rattle.barriers.specs.Kits.{Kit}
@@ -39,6 +39,8 @@ use Rattle.lawful_records.specs.Beginnings.{call_ended}
 use Rattle.lawful_records.specs.Meetings.{HasMet}
 use Rattle.lawful_records.specs.declared.records.PassKnown.{PassKnown}
 use Rattle.lawful_records.specs.declared.records.CollectorKnown.{CollectorKnown}
+use Rattle.lawful_records.specs.declared.records.Sealed.{Sealed}
+use Rattle.lawful_records.specs.Turns.{seal_in}
 use Rattle.lawful_records.specs.declared.records.Party.{Party}
 use Rattle.lawful_records.specs.declared.records.Party.TheVariants as party
 
@@ -84,6 +86,18 @@ IsRetireIn l n pass registers region m =
 abbrev pub last_front : ℕ → List Ended → ℕ
 last_front n [] = n
 last_front n (e ∷ es) = last_front e.front es
+
+-- ---- what is sealed
+
+-- the object is there
+pub record IsThereSealed (s : Space) (one : Sealed) : Type 0 where
+  pub live : IsLive (s.state one.at)
+  pub len : s.len one.at ≡ one.len
+
+-- by these the address of a field tells the seal of its object
+pub record AreSealed (s : Space) (sealed : List Sealed) : Type 0 where
+  pub there : All (IsThereSealed s) sealed
+  pub seals : (a f : ℕ) → IsLive (s.state a) → f < s.len a → seal_in sealed (a + 1 + f) ≡ s.seal a
 
 module _ {R W E M : Type 0} (kit : Kit R W E M) where
   -- a pass has acknowledged Retired exactly where its retirement has ended
@@ -146,6 +160,7 @@ module _ {R W E M : Type 0} (kit : Kit R W E M) where
     pub few : cycles ≤ 64
     pub collects : IsCollector l cycles k
     pub awaited : AreEarlier (length s.history) q.awaited
+    pub sealed : AreSealed s q.sealed
 
   abbrev pub IsParty : Sizes → CollectorMachine → Space → Notices → Party R W E → Type 0
   IsParty l k s n (party.Pass p) = IsPassRecord l (announced_by k) (cycle_of k) s n p
@@ -161,16 +176,6 @@ module _ {R W E M : Type 0} (kit : Kit R W E M) where
   is_collector (party.Pass p) = 0
   is_collector (party.Collector q) = 1
 
-  -- nothing is moved yet
-  abbrev pub IsPlain : State → Type 0
-  IsPlain Absent = Unit {0}
-  IsPlain Plain = Unit {0}
-  IsPlain state = ⊥
-
-  -- nor sealed
-  abbrev pub IsUnsealed : State → Option (List Call) → Type 0
-  IsUnsealed state seal = IsPlain state × (seal ≡ None)
-
   -- one record a party
   pub record AreParties (l : Sizes) (rs : List (Party R W E)) : Type 0 where
     pub many : length rs ≡ l.passes + 1
@@ -185,7 +190,7 @@ module _ {R W E M : Type 0} (kit : Kit R W E M) where
     pub owners : All (λ c. IsPass l (pass_of c)) h
 
   -- The words say the space and what is announced and acknowledged; the objects of each region follow each other; the objects are as the copier
-  -- and the history have them; and each party stands where it is.
+  -- and the history have them, and none is on its way by a mark; and each party stands where it is.
   pub record LawfulRecords (l : Sizes) (words : List ℕ) (rs : List (Party R W E)) : Type 0 where
     pub layout : IsLayout l
     pub width : length words ≡ words_of l
@@ -199,6 +204,6 @@ module _ {R W E M : Type 0} (kit : Kit R W E M) where
     pub rows : Rows l space.state space.len space.ends space.region
     pub objects : AreObjects kit.protocol (cycle_of collector) space
     pub lens : HasLens space
-    pub plain : (a : ℕ) → IsUnsealed (space.state a) (space.seal a)
+    pub resting : (a : ℕ) → IsMoving (space.state a) → ⊥
     pub history : IsHistoryOf l space.history rs
     pub each : All (IsParty l collector space notices) rs

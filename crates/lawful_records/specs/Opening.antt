@@ -45,4 +45,4 @@ module _ {R W E : Type 0} where
 
   -- the passes of the layout, and a collector that plays so many cycles
   abbrev pub opening_parties : Sizes → ℕ → List (Party R W E)
-  opening_parties l cycles = opening_passes l 1 l.passes ++ party.Collector (record { machine = collector_of l cycles; awaited = none_awaited }) ∷ []
+  opening_parties l cycles = opening_passes l 1 l.passes ++ party.Collector (record { machine = collector_of l cycles; awaited = none_awaited; sealed = [] }) ∷ []

@@ -1,5 +1,5 @@
 -- A turn of a pass: what holds where it takes its step, and what the step makes of that.
-use Rattle.std.specs.Prelude.{◌≡◌, ◌≢◌, ℕ, List, length, slice_index, IsSome, Option, None}
+use Rattle.std.specs.Prelude.{◌≡◌, ◌≢◌, ℕ, true, List, length, slice_index, IsSome, Option, Some, None}
 use Rattle.call_steps.specs.Steps.{place_of, applied}
 use Rattle.call_steps.specs.StepLaws.{reading}
 use Rattle.heap_words.specs.Layouts.{Sizes, IsLayout, IsPass, words_of}
@@ -12,11 +12,12 @@ use Rattle.barriers.specs.Rows.{Rows}
 use Rattle.barriers.specs.Stances.{stance_at}
 use Rattle.barriers.specs.Cycles.{Cycle, Side, Handshaken}
 use Rattle.barriers.specs.Objects.{AreObjects, HasLens}
+use Rattle.barriers.specs.Knowns.{Known, spot_of}
 use Rattle.barriers.specs.Kits.{Kit, Stepping}
 use Rattle.lawful_records.specs.Frames.{Beside}
-use Rattle.lawful_records.specs.LawfulRecords.{IsUnsealed, IsPassRecord}
-use Rattle.lawful_records.specs.Records.{number_of}
-use Rattle.lawful_records.specs.Turns.{pass_asks, pass_turned, change_by, with_change}
+use Rattle.lawful_records.specs.LawfulRecords.{IsPassRecord}
+use Rattle.lawful_records.specs.Records.{number_of, known_of}
+use Rattle.lawful_records.specs.Turns.{pass_asks, pass_turned, change_by, front_by, with_change, LooksOn}
 use Rattle.barriers.specs.declared.pass.PassMachine.{PassMachine}
 use Rattle.lawful_records.specs.declared.records.PassKnown.{PassKnown}
 
@@ -31,6 +32,11 @@ pub record IsAnnounced (l : Sizes) (a : Announced) (c : Cycle) : Type 0 where
 abbrev pub in_machine : {R W E : Type 0} → PassKnown R W E → PassMachine R W E → PassKnown R W E
 in_machine p m = record p { pass = record p.pass { machine = m } }
 
+-- the seal of the object that a call is at
+abbrev pub seal_at : Space → Option Known → Option (List Call)
+seal_at s None = None
+seal_at s (Some k) = s.seal (let z = spot_of k in z.at)
+
 module _ {R W E M : Type 0} (kit : Kit R W E M) (by : Stepping R W E M) where
   -- the words say the space, in which the objects are as the history has them, and the pass stands where it is
   pub record PassStands (l : Sizes) (a : Announced) (c : Cycle) (s : Space) (n : Notices) (p : PassKnown R W E) (words : List ℕ) : Type 0 where
@@ -43,7 +49,7 @@ module _ {R W E M : Type 0} (kit : Kit R W E M) (by : Stepping R W E M) where
     pub rows : Rows l s.state s.len s.ends s.region
     pub objects : AreObjects kit.protocol c s
     pub lens : HasLens s
-    pub plain : (at : ℕ) → IsUnsealed kit (s.state at) (s.seal at)
+    pub late : c.late ≡ true
     pub own : IsPassRecord kit l a c s n p
 
   -- the word that its step finds
@@ -54,9 +60,13 @@ module _ {R W E M : Type 0} (kit : Kit R W E M) (by : Stepping R W E M) where
   abbrev pub change_in : PassKnown R W E → List ℕ → Option Call
   change_in p words = change_by kit by p.pass.machine (number_of p) (found_by p words)
 
+  -- the seal of the object that its call is at
+  abbrev pub seal_for : Space → PassMachine R W E → Option (List Call)
+  seal_for s m = seal_at s (known_of kit m)
+
   -- the pass after its step
   abbrev pub pass_after : Space → PassKnown R W E → List ℕ → PassKnown R W E
-  pass_after s p words = pass_turned kit by s.history p (found_by p words)
+  pass_after s p words = pass_turned kit by (seal_for s p.pass.machine) s.history p (found_by p words)
 
   -- after the step the words say this space, and all of that holds of it; to others the step is as one of this pass's
   pub record PassTurn (l : Sizes) (a : Announced) (c : Cycle) (s : Space) (n : Notices) (p : PassKnown R W E) (words : List ℕ) (t : Space) (o : Notices) : Type 0 where
@@ -64,10 +74,10 @@ module _ {R W E M : Type 0} (kit : Kit R W E M) (by : Stepping R W E M) where
     pub rows : Rows l t.state t.len t.ends t.region
     pub objects : AreObjects kit.protocol c t
     pub lens : HasLens t
-    pub plain : (at : ℕ) → IsUnsealed kit (t.state at) (t.seal at)
     pub beside : Beside kit l c (number_of p) s t n o
     pub history : t.history ≡ with_change (change_in p words) s.history
     pub number : number_of (pass_after s p words) ≡ number_of p
+    pub looks : LooksOn (front_by kit by p.pass.machine (found_by p words)) (seal_for s p.pass.machine) s.history p.seen
     pub own : IsPassRecord kit l a c t o (pass_after s p words)
 
   -- there is such a turn

@@ -1,16 +1,18 @@
 -- What a step makes of the record of its party.
-use Rattle.std.specs.Prelude.{ℕ, List, ◌∷◌, length, Option, Some, None, if◌then◌else◌}
+use Rattle.std.specs.Prelude.{ℕ, ◌+◌, Bool, nat_lt, ◌&&◌, List, [], ◌∷◌, ◌++◌, length, Option, Some, None, if◌then◌else◌}
 use Rattle.object_headers.specs.Headers.{header_at}
+use Rattle.call_steps.specs.Steps.{place_of}
 use Rattle.call_steps.specs.declared.step.Step.{Step}
+use Rattle.heap_history.specs.NewestFirst.{Before}
 use Rattle.heap_history.specs.declared.call.Call.{Call}
 use Rattle.heap_history.specs.declared.call.Call.TheVariants as calls
 use Rattle.barriers.specs.declared.front.Front.{Front}
-use Rattle.barriers.specs.declared.front.Front.TheVariants.{Stays, Now, SealedOrNow}
+use Rattle.barriers.specs.declared.front.Front.TheVariants.{Stays}
 use Rattle.barriers.specs.declared.new_object.NewMachine.{NewMachine}
 use Rattle.barriers.specs.declared.new_object.NewMachine.TheVariants as make
 use Rattle.barriers.specs.declared.pass.PassMachine.{PassMachine}
 use Rattle.barriers.specs.declared.pass.PassMachine.TheVariants as machine
-use Rattle.barriers.specs.Knowns.{Known, spot_of, task_of, call_of}
+use Rattle.barriers.specs.Knowns.{Known, spot_of, task_of, call_of, front}
 use Rattle.barriers.specs.Protocols.{has_made}
 use Rattle.barriers.specs.Kits.{Kit, Stepping}
 use Rattle.barriers.specs.PassMachines as pass_machines
@@ -18,6 +20,7 @@ use Rattle.lawful_records.specs.Collectors as collectors
 use Rattle.lawful_records.specs.Records.{number_of, history_of}
 use Rattle.lawful_records.specs.declared.records.PassKnown.{PassKnown}
 use Rattle.lawful_records.specs.declared.records.CollectorKnown.{CollectorKnown}
+use Rattle.lawful_records.specs.declared.records.Sealed.{Sealed}
 use Rattle.lawful_records.specs.declared.records.Party.{Party}
 use Rattle.lawful_records.specs.declared.records.Party.TheVariants as party
 
@@ -36,12 +39,35 @@ abbrev pub with_change : Option Call → List Call → List Call
 with_change None h = h
 with_change (Some c) h = c ∷ h
 
--- what was seen after a step that is this change, or a look with this front; nothing is sealed yet
-abbrev pub seen_by : Option Call → Front → List Call → List Call → List Call
-seen_by (Some c) front h seen = c ∷ h
-seen_by None Stays h seen = seen
-seen_by None Now h seen = h
-seen_by None SealedOrNow h seen = h
+-- what was seen after a step that is this change, or a look with this front at an object that was sealed then, if it is sealed
+abbrev pub seen_by : Option Call → Front → Option (List Call) → List Call → List Call → List Call
+seen_by (Some c) look seal h seen = c ∷ h
+seen_by None look seal h seen = front look seal h seen
+
+-- a look with this front sees no more than there is, and no less than was seen
+pub record LooksOn (look : Front) (seal : Option (List Call)) (h seen : List Call) : Type 0 where
+  pub past : Before (front look seal h seen) h
+  pub later : Before seen (front look seal h seen)
+
+-- ---- seals
+
+-- the address is that of a field of the object
+abbrev pub has_word : Sealed → ℕ → Bool
+has_word sealed at = nat_lt sealed.at at && nat_lt at (sealed.at + 1 + sealed.len)
+
+-- the history at the seal of the object that has a field at this address, if it is sealed
+abbrev pub seal_in : List Sealed → ℕ → Option (List Call)
+seal_in [] at = None
+seal_in (one ∷ more) at = if has_word one at then Some one.changes else seal_in more at
+
+abbrev pub sealed_by : {R W E : Type 0} → Party R W E → List Sealed
+sealed_by (party.Pass p) = []
+sealed_by (party.Collector q) = q.sealed
+
+-- what is sealed, by the records of all
+abbrev pub sealed_of : {R W E : Type 0} → List (Party R W E) → List Sealed
+sealed_of [] = []
+sealed_of (r ∷ rs) = sealed_by r ++ sealed_of rs
 
 module _ {R W E M : Type 0} (kit : Kit R W E M) (by : Stepping R W E M) where
   -- the step that a pass's machine asks for, and the machine when it was fed
@@ -65,11 +91,12 @@ module _ {R W E M : Type 0} (kit : Kit R W E M) (by : Stepping R W E M) where
   front_by (machine.Exchange m) n = by.exchange_front m n
   front_by m n = Stays
 
-  -- a pass that took its step, where this was the history: its machine, what it has seen, and its own changes; nothing else
-  abbrev pub pass_turned : List Call → PassKnown R W E → ℕ → PassKnown R W E
-  pass_turned h p n =
+  -- A pass that took its step, where this was the history, and this the seal of the object at which it is: its machine, what it has seen,
+  -- and its own changes; nothing else.
+  abbrev pub pass_turned : Option (List Call) → List Call → PassKnown R W E → ℕ → PassKnown R W E
+  pass_turned seal h p n =
       let change = change_by p.pass.machine (number_of p) n in
-      let seen = seen_by change (front_by p.pass.machine n) h p.seen in
+      let seen = seen_by change (front_by p.pass.machine n) seal h p.seen in
       record p {
         pass = record p.pass { machine = pass_fed p.pass.machine n; seen = length seen };
         seen = seen;
@@ -81,6 +108,7 @@ module _ {R W E M : Type 0} (kit : Kit R W E M) (by : Stepping R W E M) where
   collector_turned h q n = record {
     machine = collectors.fed_of q.machine n;
     awaited = collectors.awaits_behind q.machine (collectors.fed_of q.machine n) (length h) q.awaited;
+    sealed = q.sealed;
   }
 
   abbrev pub party_asks : Party R W E → Step
@@ -89,5 +117,5 @@ module _ {R W E M : Type 0} (kit : Kit R W E M) (by : Stepping R W E M) where
 
   -- the record after its turn among the others
   abbrev pub turned : List (Party R W E) → Party R W E → ℕ → Party R W E
-  turned others (party.Pass p) n = party.Pass (pass_turned (history_of (party.Pass p ∷ others)) p n)
+  turned others (party.Pass p) n = party.Pass (pass_turned (seal_in (sealed_of others) (place_of (pass_asks p.pass.machine))) (history_of (party.Pass p ∷ others)) p n)
   turned others (party.Collector q) n = party.Collector (collector_turned (history_of (party.Collector q ∷ others)) q n)

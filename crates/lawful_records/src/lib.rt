@@ -5,4 +5,4 @@ mod collector;
 mod records;
 
 pub use collector::{Announcement, Awaited, CollectorMachine, Stage};
-pub use records::{CollectorKnown, Party, PassKnown};
+pub use records::{CollectorKnown, Party, PassKnown, Sealed};

@@ -16,11 +16,23 @@ pub struct PassKnown<R, W, E> {
     pub ended: LinkedList<Ended>,
 }
 
+/// An object that is sealed: its words are those of the history at its seal.
+pub struct Sealed {
+    /// The address of its header.
+    pub at: u32,
+    /// How many fields it has.
+    pub len: u32,
+    /// The changes at its seal, the newest first.
+    pub changes: LinkedList<Call>,
+}
+
 /// What is known of the collector.
 pub struct CollectorKnown {
     pub machine: CollectorMachine,
     /// How many changes there were when the awaits of the running cycle ended.
     pub awaited: Awaited,
+    /// The objects that are sealed.
+    pub sealed: LinkedList<Sealed>,
 }
 
 /// What is known of a party.

@@ -25,7 +25,7 @@ known_as p = record { pass = p; seen = []; mine = []; ended = [] }
 
 -- a collector before its first step
 abbrev pub collector_at_start : {R W E : Type 0} → Sizes → ℕ → Party R W E
-collector_at_start l cycles = party.Collector (record { machine = collector_of l cycles; awaited = none_awaited })
+collector_at_start l cycles = party.Collector (record { machine = collector_of l cycles; awaited = none_awaited; sealed = [] })
 
 module _ {R W E M : Type 0} (kit : Kit R W E M) (by : Stepping R W E M) (laws : Laws kit by) (l : Sizes) where
   -- before its first command it polls, and without a command it retires

@@ -72,7 +72,7 @@ module _ {R W E M : Type 0} (kit : Kit R W E M) (by : Stepping R W E M) where
   few_by l c s n p (machine.New y) on is x m_is = making_few l s (number_of p) p.pass.room p.pass.made y on is
   few_by l c s n p m on is x m_is = absurd cc
 
-  seen_has : (change : Option Call) (front : Front) (h seen : List Call) → HasSeen kit by (seen_by change front h seen) change
+  seen_has : (change : Option Call) (front : Front) (h seen : List Call) → HasSeen kit by (seen_by change front None h seen) change
   seen_has (Some c) front h seen = (h, refl)
   seen_has None front h seen = tt
 
@@ -168,7 +168,7 @@ module _ {R W E M : Type 0} (kit : Kit R W E M) (by : Stepping R W E M) where
       look unmade = looked_same kit by laws w lawful number is (subst (λ (b : Bool). ChangesSo b change) unmade changes)
 
       seen_is : (c : Call) → change ≡ Some c → q.seen ≡ c ∷ h
-      seen_is c c_is = ap (λ (o : Option Call). seen_by o (front_by kit by p.machine n) h (seen_of h p.seen)) c_is
+      seen_is c c_is = ap (λ (o : Option Call). seen_by o (front_by kit by p.machine n) None h (seen_of h p.seen)) c_is
 
       made : is_made end ≡ true → length q.seen ≡ changes_now w + 1
       made change_made =

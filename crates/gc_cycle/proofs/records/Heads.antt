@@ -38,7 +38,7 @@ module _ {R W E M : Type 0} (kit : Kit R W E M) (by : Stepping R W E M) (laws : 
   passes = map (in_pass w) w.passes
 
   abbrev collects : Party R W E
-  collects = parties.Collector (record { machine = w.collector; awaited = w.awaited })
+  collects = parties.Collector (record { machine = w.collector; awaited = w.awaited; sealed = [] })
 
   collected_heads : collectors.asks_of w.collector ≢ Ended → Heads (collected kit by w)
   collected_heads on = lawful_heads kit by laws w.layout w.words passes collects (lawful_regroups kit w.layout w.words (records_in w) (collects ∷ passes) (collector_first kit by laws w lawful) lawful.records) on kind

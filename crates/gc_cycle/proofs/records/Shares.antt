@@ -140,7 +140,7 @@ module _ {R W E M : Type 0} (kit : Kit R W E M) (w : State R W E) (lawful : Lawf
   in_pass p = party.Pass (known_in w p)
 
   abbrev tail : List (Party R W E)
-  tail = party.Collector (record { machine = w.collector; awaited = w.awaited }) ∷ []
+  tail = party.Collector (record { machine = w.collector; awaited = w.awaited; sealed = [] }) ∷ []
 
   place_below : (pass : ℕ) → IsPass w.layout pass → pass - 1 < length w.passes
   place_below pass is = omega (arith, is.0, is.1, lawful.passes)

@@ -1,8 +1,10 @@
 -- The records of a world whose thread took its step alone.
 use Rattle.std.specs.Prelude.{◌≢◌, IsPermutation, slice_index}
-use Rattle.std.proofs.Common.{◌≡◌, ℕ, ◌-◌, List, [], ◌∷◌, ◌++◌, length, Option, Some, None, refl, sym, ap, ◌∙◌, subst, arith}
+use Rattle.std.proofs.Common.{◌≡◌, ℕ, ◌-◌, List, [], ◌∷◌, ◌++◌, length, map, Option, Some, None, refl, sym, ap, ◌∙◌, subst, arith}
 use Rattle.std.proofs.lemmas.List.{length-reverse}
-use Rattle.std.proofs.lemmas.List.Elements.{All-head}
+use Rattle.std.specs.List.{All}
+use Rattle.std.proofs.lemmas.List.Elements.{All-nil, All-cons, All-head, All-tail}
+use Rattle.std.proofs.lemmas.List.Sorted.{All-permutation}
 use Rattle.call_steps.specs.declared.step.Step.{Step}
 use Rattle.call_steps.specs.declared.step.Step.TheVariants.{Ended}
 use Rattle.call_steps.specs.StepLaws.{found_by-step}
@@ -20,8 +22,9 @@ use Rattle.barriers.specs.Kits.{Kit, Stepping, Laws}
 use Rattle.lawful_records.specs.Cycling.{announced_by, cycle_of}
 use Rattle.lawful_records.specs.LawfulRecords.{LawfulRecords, IsParty}
 use Rattle.lawful_records.specs.Records.{number_of, history_of, known_of}
-use Rattle.lawful_records.specs.Turns.{with_change, seen_by, change_by, front_by, pass_fed, pass_turned}
+use Rattle.lawful_records.specs.Turns.{with_change, seen_by, seal_in, sealed_by, sealed_of, change_by, front_by, pass_fed, pass_turned}
 use Rattle.lawful_records.specs.declared.records.PassKnown.{PassKnown}
+use Rattle.lawful_records.specs.declared.records.Sealed.{Sealed}
 use Rattle.lawful_records.specs.declared.records.Party.{Party}
 use Rattle.lawful_records.specs.declared.records.Party.TheVariants as parties
 use Rattle.lawful_records.proofs.RecordLaws.{record_keeps, lawful_regroups, lawful_calls}
@@ -39,16 +42,26 @@ abbrev pub in_pass : {R W E : Type 0} → State R W E → PassRecord R W E → P
 in_pass w p = parties.Pass (known_in w p)
 
 abbrev pub collector_in : {R W E : Type 0} → State R W E → List (Party R W E)
-collector_in w = parties.Collector (record { machine = w.collector; awaited = w.awaited }) ∷ []
+collector_in w = parties.Collector (record { machine = w.collector; awaited = w.awaited; sealed = [] }) ∷ []
+
+-- ---- what is sealed: nothing
+
+all_unsealed : {R W E : Type 0} → (w : State R W E) (passes : List (PassRecord R W E)) → All (λ r. sealed_by r ≡ []) (map (in_pass w) passes ++ collector_in w)
+all_unsealed w [] = All-cons (λ r. sealed_by r ≡ []) _ [] refl (All-nil (λ r. sealed_by r ≡ []))
+all_unsealed w (p ∷ passes) = All-cons (λ r. sealed_by r ≡ []) (in_pass w p) (map (in_pass w) passes ++ collector_in w) refl (all_unsealed w passes)
+
+none_sealed : {R W E : Type 0} → (rs : List (Party R W E)) → All (λ r. sealed_by r ≡ []) rs → sealed_of rs ≡ []
+none_sealed [] none = refl
+none_sealed (r ∷ rs) none = ap (λ first. first ++ sealed_of rs) (All-head (λ r. sealed_by r ≡ []) r rs none) ∙ none_sealed rs (All-tail (λ r. sealed_by r ≡ []) r rs none)
 
 -- ---- what was seen
 
-looked : (front : Front) (h : List Call) (count changes : ℕ) → changes ≡ length h → count ≡ length (seen_of h count) → seen_with front changes count ≡ length (seen_by None front h (seen_of h count))
+looked : (front : Front) (h : List Call) (count changes : ℕ) → changes ≡ length h → count ≡ length (seen_of h count) → seen_with front changes count ≡ length (seen_by None front None h (seen_of h count))
 looked Stays h count changes all is = is
 looked Now h count changes all is = all
 looked SealedOrNow h count changes all is = all
 
-pub seen_again : (change : Option Call) (front : Front) (h : List Call) (count : ℕ) → count ≡ length (seen_of h count) → (let seen = seen_by change front h (seen_of h count) in seen_of (with_change change h) (length seen) ≡ seen)
+pub seen_again : (change : Option Call) (front : Front) (h : List Call) (count : ℕ) → count ≡ length (seen_of h count) → (let seen = seen_by change front None h (seen_of h count) in seen_of (with_change change h) (length seen) ≡ seen)
 seen_again (Some c) front h count is = seen_whole (c ∷ h)
 seen_again None Stays h count is = ap (seen_of h) (sym is)
 seen_again None Now h count is = seen_whole h
@@ -57,7 +70,7 @@ seen_again None SealedOrNow h count is = seen_whole h
 module _ {R W E M : Type 0} (kit : Kit R W E M) (by : Stepping R W E M) where
   -- the record of a thread after its step alone
   abbrev pub turned_in : State R W E → ℕ → PassKnown R W E
-  turned_in w number = pass_turned kit by (history_in w) (known_in w (pass_at w number)) (found_at kit by w number)
+  turned_in w number = pass_turned kit by None (history_in w) (known_in w (pass_at w number)) (found_at kit by w number)
 
   module _ (laws : Laws kit by) (w : State R W E) (lawful : Lawful kit w) (number : ℕ) where
     module _ (rest : List (Party R W E)) (moves : IsPermutation (records_in w) (in_pass w (pass_at w number) ∷ rest)) (on : asks_at kit by w number ≢ Ended) where
@@ -68,6 +81,10 @@ module _ {R W E M : Type 0} (kit : Kit R W E M) (by : Stepping R W E M) where
       history = let records = lawful.records in let space = records.space in
           pasts.history_is kit w.layout space.history (in_pass w (pass_at w number) ∷ rest) (history_regroup kit w.layout space.history (records_in w) (in_pass w (pass_at w number) ∷ rest) moves records.history) ∙ history_is kit w lawful
 
+      -- nothing is sealed
+      unsealed : sealed_of rest ≡ []
+      unsealed = none_sealed rest (All-tail (λ r. sealed_by r ≡ []) (in_pass w (pass_at w number)) rest (All-permutation (λ r. sealed_by r ≡ []) (records_in w) (in_pass w (pass_at w number) ∷ rest) moves (all_unsealed w w.passes)))
+
       found : slice_index w.words (place_of (asks_at kit by w number)) ≡ found_at kit by w number
       found = sym (found_by-step (asks_at kit by w number) w.words on)
 
@@ -76,8 +93,9 @@ module _ {R W E M : Type 0} (kit : Kit R W E M) (by : Stepping R W E M) where
           let asks : Step = asks_at kit by w number in
           let p : PassKnown R W E = known_in w (pass_at w number) in
           let kept = record_keeps kit by laws w.layout w.words rest (in_pass w (pass_at w number)) before on in
-          subst (λ (n : ℕ). LawfulRecords kit w.layout (applied asks w.words) (parties.Pass (pass_turned kit by (history_in w) p n) ∷ rest)) found
-          (subst (λ (h : List Call). LawfulRecords kit w.layout (applied asks w.words) (parties.Pass (pass_turned kit by h p (slice_index w.words (place_of asks))) ∷ rest)) history kept)
+          subst (λ (n : ℕ). LawfulRecords kit w.layout (applied asks w.words) (parties.Pass (pass_turned kit by None (history_in w) p n) ∷ rest)) found
+          (subst (λ (h : List Call). LawfulRecords kit w.layout (applied asks w.words) (parties.Pass (pass_turned kit by None h p (slice_index w.words (place_of asks))) ∷ rest)) history
+          (subst (λ (sealed : List Sealed). LawfulRecords kit w.layout (applied asks w.words) (parties.Pass (pass_turned kit by (seal_in sealed (place_of asks)) (history_of (in_pass w (pass_at w number) ∷ rest)) p (slice_index w.words (place_of asks))) ∷ rest)) unsealed kept))
 
       stepped_calls : (k next : Known) → known_of kit (let p = pass_at w number in p.machine) ≡ Some k → known_of kit (pass_fed kit by (let p = pass_at w number in p.machine) (found_at kit by w number)) ≡ Some next → CallKept k next
       stepped_calls = subst (λ (n : ℕ). (k next : Known) → known_of kit (let p = pass_at w number in p.machine) ≡ Some k → known_of kit (pass_fed kit by (let p = pass_at w number in p.machine) n) ≡ Some next → CallKept k next) found
@@ -122,7 +140,7 @@ module _ {R W E M : Type 0} (kit : Kit R W E M) (by : Stepping R W E M) where
           let h : List Call = history_in w in
           ap (λ (front : Front). seen_with front (changes_now w) p.seen) (front_is kit by p.machine n)
           ∙ looked (front_by kit by p.machine n) h p.seen (changes_now w) changes_are counted
-          ∙ ap (λ (o : Option Call). length (seen_by o (front_by kit by p.machine n) h (seen_of h p.seen))) (sym none)
+          ∙ ap (λ (o : Option Call). length (seen_by o (front_by kit by p.machine n) None h (seen_of h p.seen))) (sym none)
 
       -- what is read off the world after its turn
       pub known_after : (next : State R W E) (pass : PassRecord R W E) (call : Option EndedCall) → next.told.log ≡ logged w.told.log call → history_in next ≡ with_change change (history_in w)

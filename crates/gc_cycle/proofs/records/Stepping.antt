@@ -13,7 +13,7 @@ use Rattle.gc_cycle.specs.Worlds.{seen_with}
 use Rattle.gc_cycle.proofs.records.Shares.{seen_whole}
 
 -- how many changes were seen after a step that is no change
-pub seen_counted : (front : Front) (h : List Call) (n : ℕ) → n ≤ length h → seen_of h (seen_with front (length h) n) ≡ seen_by None front h (seen_of h n)
+pub seen_counted : (front : Front) (h : List Call) (n : ℕ) → n ≤ length h → seen_of h (seen_with front (length h) n) ≡ seen_by None front None h (seen_of h n)
 seen_counted Stays h n within = refl
 seen_counted Now h n within = seen_whole h
 seen_counted SealedOrNow h n within = seen_whole h

@@ -44,7 +44,7 @@ module _ {R W E M : Type 0} (kit : Kit R W E M) (by : Stepping R W E M) (laws : 
   passes = map (in_pass w) w.passes
 
   abbrev q : CollectorKnown
-  q = record { machine = w.collector; awaited = w.awaited }
+  q = record { machine = w.collector; awaited = w.awaited; sealed = [] }
 
   abbrev asks : Step
   asks = collectors.asks_of w.collector
@@ -62,10 +62,10 @@ module _ {R W E M : Type 0} (kit : Kit R W E M) (by : Stepping R W E M) (laws : 
       let kept = record_keeps kit by laws w.layout w.words passes (parties.Collector q) before on in
       let found : slice_index w.words (place_of asks) ≡ found_by asks w.words = sym (found_by-step asks w.words on) in
       let count : length (history_in w) ≡ changes_now w = length-reverse (changes_of w.told.log) in
-      let turned : CollectorKnown = record { machine = collectors.fed_of w.collector (found_by asks w.words); awaited = collectors.awaits_behind w.collector (collectors.fed_of w.collector (found_by asks w.words)) (changes_now w) w.awaited } in
+      let turned : CollectorKnown = record { machine = collectors.fed_of w.collector (found_by asks w.words); awaited = collectors.awaits_behind w.collector (collectors.fed_of w.collector (found_by asks w.words)) (changes_now w) w.awaited; sealed = [] } in
       let is : collector_turned kit by (history_of (parties.Collector q ∷ passes)) q (slice_index w.words (place_of asks)) ≡ turned =
       ap (λ (h : List Call). collector_turned kit by h q (slice_index w.words (place_of asks))) history ∙ ap (λ (n : ℕ). collector_turned kit by (history_in w) q n) found
-      ∙ ap (λ (k : ℕ). record { machine = collectors.fed_of w.collector (found_by asks w.words); awaited = collectors.awaits_behind w.collector (collectors.fed_of w.collector (found_by asks w.words)) k w.awaited }) count in
+      ∙ ap (λ (k : ℕ). record { machine = collectors.fed_of w.collector (found_by asks w.words); awaited = collectors.awaits_behind w.collector (collectors.fed_of w.collector (found_by asks w.words)) k w.awaited; sealed = [] }) count in
       lawful_regroups kit w.layout (applied asks w.words) (parties.Collector turned ∷ passes) (passes ++ parties.Collector turned ∷ [])
       (IsPermutation-sym (passes ++ parties.Collector turned ∷ []) (parties.Collector turned ∷ passes) (IsPermutation-to_front passes (parties.Collector turned)))
       (subst (λ (x : CollectorKnown). LawfulRecords kit w.layout (applied asks w.words) (parties.Collector x ∷ passes)) is kept)

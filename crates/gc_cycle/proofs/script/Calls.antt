@@ -68,7 +68,7 @@ exchange_silent (Over z (Exchanges expected other) end) suits wanted word task n
 exchange_silent k suits wanted word task none = refl
 
 -- how many changes were seen after a step with this front
-pub seen_is : (front : Front) (log : List Ended) (hist seen : List Call) (count : ℕ) → hist ≡ reverse (changes_of log) → count ≡ length seen → length (seen_by None front hist seen) ≡ seen_with front (length (changes_of log)) count
+pub seen_is : (front : Front) (log : List Ended) (hist seen : List Call) (count : ℕ) → hist ≡ reverse (changes_of log) → count ≡ length seen → length (seen_by None front None hist seen) ≡ seen_with front (length (changes_of log)) count
 seen_is Stays log hist seen count is same = sym same
 seen_is Now log hist seen count is same = ap length is ∙ length-reverse (changes_of log)
 seen_is SealedOrNow log hist seen count is same = ap length is ∙ length-reverse (changes_of log)
@@ -105,7 +105,7 @@ module _ {R W E : Type 0} (l : Sizes) (log : List Ended) (hist : List Call) (his
   -- ---- calls that may change the heap
 
   abbrev Seen : Known → Front → List Call → ℕ
-  Seen k front seen = length (seen_by (change_call k pass) front hist seen)
+  Seen k front seen = length (seen_by (change_call k pass) front None hist seen)
 
   -- a change was the next one
   made_said : (g : List Call) (z : Spot) (t : Task) (end : Ending) (call : Call) (e : Ended) → g ≡ call_of pass z t ∷ hist → Follows (reverse g) pass 0 (es ++ e ∷ []) → e.call ≡ call → is_change e.reply ≡ true → e.front ≡ length (call_of pass z t ∷ hist) → IsChange log call e.reply
@@ -130,7 +130,7 @@ module _ {R W E : Type 0} (l : Sizes) (log : List Ended) (hist : List Call) (his
 
   module _ (dst obj field : ℕ) (expected value : Operand) (link : IsLink (held_in p.registers obj)) where
     pub exchange_over : (k : Known) (g : List Call) (front : Front) (seen : List Call) → EndsSo k → access_of pass k ≡ exchange_call (face_of p) obj field expected value → g ≡ with_change (change_call k pass) hist
-        → Follows (reverse g) pass 0 (es ++ ended_call (Some k) pass (Seen k front seen)) → Refuses g k → length (seen_by None front hist seen) ≡ p.seen
+        → Follows (reverse g) pass 0 (es ++ ended_call (Some k) pass (Seen k front seen)) → Refuses g k → length (seen_by None front None hist seen) ≡ p.seen
         → (said : ExchangeEnd) → said_by exchange_said (ending_of k) ≡ Some said → EndSays l log p (commands.Cas dst obj field expected value) (ends.Exchange said) (is_some (change_call k pass))
     exchange_over (Over z t Done) g front seen suits access is told refuses count said some =
         let said_is : exchange_end.Done ≡ said = cc in
@@ -139,7 +139,7 @@ module _ {R W E : Type 0} (l : Sizes) (log : List Ended) (hist : List Call) (his
         (link, made_said g z t Done (exchange_call (face_of p) obj field expected value) e is told access refl refl, refl)
     exchange_over (Over z t (Differs word)) g front seen suits access is told refuses count said some =
         let said_is : exchange_end.Differs word ≡ said = cc in
-        let front_is = length (seen_by None front hist seen) in
+        let front_is = length (seen_by None front None hist seen) in
         let looked = look_said log g pass es (record { call = call_of pass z t; reply = replies.Differs (value_of word); front = front_is }) (is ∙ hist_is) told refl in
         subst (λ (x : ExchangeEnd). EndSays l log p (commands.Cas dst obj field expected value) (ends.Exchange x) false) said_is
         (link, subst (λ (n : ℕ). IsLooked log n (exchange_call (face_of p) obj field expected value) (replies.Differs (value_of word))) count (subst (λ (x : Call). IsLooked log front_is x (replies.Differs (value_of word))) access looked), refl)

@@ -85,7 +85,7 @@ module _ {R W E M : Type 0} (kit : Kit R W E M) (by : Stepping R W E M) (laws : 
   known m = record { pass = record p { machine = m }; seen = seen; mine = mine; ended = es }
 
   abbrev pub after : PassMachine R W E → PassKnown R W E
-  after m = pass_turned kit by hist (known m) n
+  after m = pass_turned kit by None hist (known m) n
 
   abbrev pub next : PassMachine R W E → PassRecord R W E
   next m = record p { machine = pass_fed kit by m n; seen = seen_with (front_by kit by m n) (length (changes_of log)) p.seen }

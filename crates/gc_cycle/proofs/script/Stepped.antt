@@ -105,7 +105,7 @@ module _ {R W E M : Type 0} (kit : Kit R W E M) (by : Stepping R W E M) (laws : 
     rows = records.rows;
     objects = records.objects;
     lens = records.lens;
-    plain = records.plain;
+    late = refl;
     own = record_at kit w lw party is;
   }
 
@@ -228,7 +228,7 @@ module _ {R W E M : Type 0} (kit : Kit R W E M) (by : Stepping R W E M) (laws : 
   own_then = let turn = has.turn in turn.own
 
   standing_then : Standing kit l has.space has.notices
-  standing_then = let turn = has.turn in record { layout = stands.layout; memory = reading (applied (asks_at kit by w party) w.words); says = turn.says; rows = turn.rows; plain = turn.plain }
+  standing_then = let turn = has.turn in record { layout = stands.layout; memory = reading (applied (asks_at kit by w party) w.words); says = turn.says; rows = turn.rows }
 
   word_fits : (word : FieldWord) → word_of_end kit (pass_fed kit by p.machine n) ≡ Some word → IsFieldWord word
   word_fits word said = let own = own_then in let met = own.met in (end_good kit l a c has.space has.notices standing_then (pass_after kit by s k w.words) (pass_fed kit by p.machine n) word own.machine met.call said).0

@@ -1,6 +1,6 @@
 -- A pass begins a machine.
 use Rattle.std.specs.Prelude.{◌≤◌}
-use Rattle.std.proofs.Common.{◌≡◌, ◌≢◌, ℕ, inr, Some, refl, sym, ap, ◌∙◌, subst, arith}
+use Rattle.std.proofs.Common.{◌≡◌, ◌≢◌, ℕ, inl, Some, refl, sym, ap, ◌∙◌, subst, arith, true}
 use Rattle.heap_words.specs.Layouts.{Sizes}
 use Rattle.heap_words.specs.FieldWords.{IsFieldWord, word_of}
 use Rattle.heap_words.specs.declared.operand.Operand.{Operand}
@@ -24,7 +24,7 @@ use Rattle.barriers.specs.declared.pass.PassMachine.TheVariants as machine
 use Rattle.barriers.specs.NewObjects.{new_of}
 use Rattle.barriers.specs.Spots as spots
 use Rattle.barriers.specs.Stances.{stance_at, Retired}
-use Rattle.barriers.specs.States.{State, Absent, Plain, IsHome, IsLive, On}
+use Rattle.barriers.specs.States.{On}
 use Rattle.barriers.specs.Values.{value_of}
 use Rattle.barriers.specs.Spaces.{Space, Holds}
 use Rattle.barriers.specs.Says.{Notices}
@@ -35,7 +35,7 @@ use Rattle.barriers.specs.Protocols.{OnHand}
 use Rattle.barriers.specs.Kits.{Kit, Stepping, Laws, own_of}
 use Rattle.barriers.specs.Records.{operand_word, Fits, machine_for}
 use Rattle.barriers.proofs.objects.Begins.{call_begins}
-use Rattle.lawful_records.specs.LawfulRecords.{IsPlain, IsAcked, IsMachine, IsUnborn, IsPassRecord, IsWriting, IsExchanging}
+use Rattle.lawful_records.specs.LawfulRecords.{IsAcked, IsMachine, IsUnborn, IsPassRecord, IsWriting, IsExchanging}
 use Rattle.lawful_records.specs.Making.{IsRoom}
 use Rattle.lawful_records.specs.Meetings.{HasMet}
 use Rattle.lawful_records.specs.PassTurns.{in_machine}
@@ -47,13 +47,7 @@ use Rattle.lawful_records.proofs.beginnings.Making.{new_makes}
 use Rattle.lawful_records.proofs.beginnings.Running.{running}
 use Rattle.lawful_records.proofs.beginnings.Taking.{Standing}
 
--- where nothing is moved, what may be led to is a home
-plain_home : {R W E M : Type 0} (kit : Kit R W E M) (x : State) → IsPlain kit x → IsLive x → IsHome x
-plain_home kit Absent plain live = absurd live
-plain_home kit Plain plain live = tt
-plain_home kit x plain live = absurd plain
-
-module _ {R W E M : Type 0} (kit : Kit R W E M) (by : Stepping R W E M) (laws : Laws kit by) (l : Sizes) (a : Announced) (c : Cycle) (s : Space) (n : Notices) (standing : Standing kit l s n) (p : PassKnown R W E)
+module _ {R W E M : Type 0} (kit : Kit R W E M) (by : Stepping R W E M) (laws : Laws kit by) (l : Sizes) (a : Announced) (c : Cycle) (s : Space) (n : Notices) (late : c.late ≡ true) (standing : Standing kit l s n) (p : PassKnown R W E)
     (is : IsPassRecord kit l a c s n (in_machine p machine.Idle)) where
   holds : PassHolds kit l a c s n p.pass.view p.pass.registers p.seen
   holds = holds_of kit l a c s n (in_machine p machine.Idle) is
@@ -74,7 +68,7 @@ module _ {R W E M : Type 0} (kit : Kit R W E M) (by : Stepping R W E M) (laws : 
   call_is : (birth at field : ℕ) (t : Task) → Holds s birth at → OnHand (Holds s) (word_in t)
       → IsCall kit.protocol c s (side_at kit p.pass.view p.seen) (kit.protocol.begins (stance_at p.pass.view.acked) (own_of kit.minds p.pass.view) (spots.spot_of birth at field) t)
   call_is birth at field t link hand = call_begins kit.protocol laws.table c s (side_at kit p.pass.view p.seen) (spots.spot_of birth at field) t holds.side
-      (record { runs = runs; holds = link; place = refl; counts = inr (plain_home kit (s.state at) (standing.plain at).0 link.1); hand = hand })
+      (record { runs = runs; holds = link; place = refl; counts = inl late; hand = hand })
 
   called : (k : Known) (birth at field : ℕ) (t : Task) → k ≡ kit.protocol.begins (stance_at p.pass.view.acked) (own_of kit.minds p.pass.view) (spots.spot_of birth at field) t → Holds s birth at → OnHand (Holds s) (word_in t)
       → IsCall kit.protocol c s (side_at kit p.pass.view p.seen) k × (task_of k ≡ t)

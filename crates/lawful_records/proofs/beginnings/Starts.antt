@@ -31,7 +31,7 @@ some_mapped f (Some x) b is = (x, refl, let same : f x ≡ b = cc in same)
 
 module _ {R W E M : Type 0} (kit : Kit R W E M) (by : Stepping R W E M) (laws : Laws kit by) (l : Sizes) (ws : List ℕ) (p : PassKnown R W E) (others : List (Party R W E)) (w : LawfulRecords kit l ws (party.Pass p ∷ others)) where
   standing : Standing kit l w.space w.notices
-  standing = record { layout = w.layout; memory = reading ws; says = w.says; rows = w.rows; plain = w.plain }
+  standing = record { layout = w.layout; memory = reading ws; says = w.says; rows = w.rows }
 
   own : IsPassRecord kit l (announced_by w.collector) (cycle_of w.collector) w.space w.notices p
   own = All-head (IsParty kit l w.collector w.space w.notices) (party.Pass p) others w.each
@@ -60,9 +60,9 @@ module _ {R W E M : Type 0} (kit : Kit R W E M) (by : Stepping R W E M) (laws : 
       subst (λ (m : PassMachine R W E). IsPassRecord kit l (announced_by w.collector) (cycle_of w.collector) w.space w.notices (in_machine p m)) start.idle own in
       let is : in_machine p to.0 ≡ q = ap (λ (r : PassRecord R W E). record p { pass = r }) to.2 ∙ sym start.is in
       subst (PassBegun kit l w.collector w.space w.notices p) is (record {
-        number = same_number kit by laws l (announced_by w.collector) (cycle_of w.collector) w.space w.notices standing p idle start.request to.0 start.fits to.1 ∙ sym (idle_number start.idle);
+        number = same_number kit by laws l (announced_by w.collector) (cycle_of w.collector) w.space w.notices refl standing p idle start.request to.0 start.fits to.1 ∙ sym (idle_number start.idle);
         seen = refl;
-        own = begun_record kit by laws l (announced_by w.collector) (cycle_of w.collector) w.space w.notices standing p idle start.request to.0 start.fits to.1;
+        own = begun_record kit by laws l (announced_by w.collector) (cycle_of w.collector) w.space w.notices refl standing p idle start.request to.0 start.fits to.1;
       })
 
   begins : (q : Party R W E) → Begins kit l (party.Pass p) q → LawfulRecords kit l ws (q ∷ others)

@@ -25,7 +25,7 @@ use Rattle.barriers.specs.Protocols.{OnHand}
 use Rattle.barriers.specs.Kits.{Kit, ending_of}
 use Rattle.barriers.proofs.words.Calls.{holds_fits}
 use Rattle.lawful_records.specs.Beginnings.{HasEnded, word_told, word_of_end, rested, with_word}
-use Rattle.lawful_records.specs.LawfulRecords.{IsGood, IsUnsealed, IsAcked, IsMachine, IsUnborn, IsPassRecord}
+use Rattle.lawful_records.specs.LawfulRecords.{IsGood, IsAcked, IsMachine, IsUnborn, IsPassRecord}
 use Rattle.lawful_records.specs.Making.{IsRoom, has_room}
 use Rattle.lawful_records.specs.Meetings.{FitsHand, HasSpotOf, HasMet}
 use Rattle.lawful_records.specs.PassTurns.{in_machine}
@@ -34,13 +34,12 @@ use Rattle.lawful_records.specs.declared.records.PassKnown.{PassKnown}
 use Rattle.lawful_records.proofs.telling.Beginning.{held_put, taken, taken_number, told_taken, met_taken, rested_view, rested_registers, with_word_view}
 use Rattle.lawful_records.proofs.turns.Holding.{PassHolds, holds_of, record_of}
 
--- the words say the space, whose objects follow each other; nothing is moved
+-- the words say the space, whose objects follow each other
 pub record Standing {R W E M : Type 0} (kit : Kit R W E M) (l : Sizes) (s : Space) (n : Notices) : Type 0 where
   pub layout : IsLayout l
   pub memory : ℕ → ℕ
   pub says : Says l memory s n
   pub rows : Rows l s.state s.len s.ends s.region
-  pub plain : (at : ℕ) → IsUnsealed kit (s.state at) (s.seal at)
 
 module _ {R W E M : Type 0} (kit : Kit R W E M) (l : Sizes) (a : Announced) (c : Cycle) (s : Space) (n : Notices) (standing : Standing kit l s n) where
   -- ---- the word of an end

@@ -12,10 +12,10 @@ use Rattle.barriers.specs.Cycles.{Cycle}
 use Rattle.barriers.specs.Objects.{AreObjects, HasLens, IsSide, IsCall}
 use Rattle.barriers.specs.Knowns.{Known, spot_of, task_of}
 use Rattle.barriers.specs.Kits.{Kit, own_of}
-use Rattle.lawful_records.specs.Frames.{Grows, SeenBy, SameRegion}
-use Rattle.lawful_records.specs.LawfulRecords.{IsUnsealed, IsUnborn}
+use Rattle.lawful_records.specs.Frames.{Grows, SeenBy, SameRegion, Left}
+use Rattle.lawful_records.specs.LawfulRecords.{IsUnborn}
 use Rattle.lawful_records.specs.Meetings.{HasSpot}
-use Rattle.lawful_records.specs.Turns.{change_call, with_change, seen_by}
+use Rattle.lawful_records.specs.Turns.{change_call, with_change, seen_by, LooksOn}
 use Rattle.lawful_records.proofs.telling.Replies.{EndsSo}
 use Rattle.lawful_records.proofs.turns.Holding.{side_at}
 
@@ -38,27 +38,28 @@ module _ {R W E M : Type 0} (kit : Kit R W E M) where
     pub rows : Rows l s.state s.len s.ends s.region
     pub objects : AreObjects kit.protocol c s
     pub lens : HasLens s
-    pub plain : (at : ℕ) → IsUnsealed kit (s.state at) (s.seal at)
     pub side : IsSide kit.protocol c s (side_at kit v seen)
     pub call : IsCall kit.protocol c s (side_at kit v seen) k
     pub packed : IsPacked k
     pub unmarked : own_of kit.minds v ≡ None
     pub met : HasSpot seen k
 
-  -- By its step, with this change or this front, the space becomes t, which the words say then; the call goes on as `next`.
-  pub record CallGoes (l : Sizes) (c : Cycle) (s t : Space) (n : Notices) (memory : ℕ → ℕ) (v : PassView) (seen : List Call) (change : Option Call) (front : Front) (next : Known) : Type 0 where
+  -- By its step, with this change or this look at an object with this seal, the space becomes t, which the words say then; the call goes on
+  -- as `next`.
+  pub record CallGoes (l : Sizes) (c : Cycle) (s t : Space) (n : Notices) (memory : ℕ → ℕ) (v : PassView) (seen : List Call) (change : Option Call) (look : Front) (seal : Option (List Call)) (next : Known) : Type 0 where
     pub says : Says l memory t n
     pub rows : Rows l t.state t.len t.ends t.region
     pub objects : AreObjects kit.protocol c t
     pub lens : HasLens t
-    pub plain : (at : ℕ) → IsUnsealed kit (t.state at) (t.seal at)
+    pub left : (at : ℕ) → Left kit.protocol s t at
     pub others : SeenBy kit.protocol c s t
     pub regions : (region : ℕ) → SameRegion s t region
     pub change_is : change ≡ change_call next v.pass
     pub history : t.history ≡ with_change change s.history
     pub grows : Grows v.pass s.history t.history
     pub unborn : (made : ℕ) → IsUnborn kit s.history v.pass made → IsUnborn kit t.history v.pass made
-    pub side : IsSide kit.protocol c t (side_at kit v (seen_by change front s.history seen))
-    pub call : IsCall kit.protocol c t (side_at kit v (seen_by change front s.history seen)) next
+    pub looks : LooksOn look seal s.history seen
+    pub side : IsSide kit.protocol c t (side_at kit v (seen_by change look seal s.history seen))
+    pub call : IsCall kit.protocol c t (side_at kit v (seen_by change look seal s.history seen)) next
     pub ends : EndsSo next
-    pub met : HasSpot (seen_by change front s.history seen) next
+    pub met : HasSpot (seen_by change look seal s.history seen) next

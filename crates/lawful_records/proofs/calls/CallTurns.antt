@@ -28,7 +28,7 @@ module _ {R W E M : Type 0} (kit : Kit R W E M) (by : Stepping R W E M) (laws : 
     abbrev read_found : ℕ
     read_found = slice_index words (place_of (by.read_asks m))
 
-    read_stands : CallStands kit l c s n (reading words) p.pass.view p.seen (kit.reads m)
+    pub read_stands : CallStands kit l c s n (reading words) p.pass.view p.seen (kit.reads m)
     read_stands = let is = stands.own.machine in
         call_stands kit by l a c s n p words (machine.Read m) (kit.reads m) (kit.reads (by.read_fed m read_found)) (in_read kit m) stands is.0 (laws.reading.packed p.pass.view m is.1)
 
@@ -60,7 +60,7 @@ module _ {R W E M : Type 0} (kit : Kit R W E M) (by : Stepping R W E M) (laws : 
     abbrev write_found : ℕ
     write_found = slice_index words (place_of (by.write_asks m))
 
-    write_stands : CallStands kit l c s n (reading words) p.pass.view p.seen (kit.writes m)
+    pub write_stands : CallStands kit l c s n (reading words) p.pass.view p.seen (kit.writes m)
     write_stands = let is = stands.own.machine in
         call_stands kit by l a c s n p words (machine.Write m) (kit.writes m) (kit.writes (by.write_fed m write_found)) (in_write kit m) stands is.0 (laws.writing.packed p.pass.view m is.1)
 
@@ -92,7 +92,7 @@ module _ {R W E M : Type 0} (kit : Kit R W E M) (by : Stepping R W E M) (laws : 
     abbrev exchange_found : ℕ
     exchange_found = slice_index words (place_of (by.exchange_asks m))
 
-    exchange_stands : CallStands kit l c s n (reading words) p.pass.view p.seen (kit.exchanges m)
+    pub exchange_stands : CallStands kit l c s n (reading words) p.pass.view p.seen (kit.exchanges m)
     exchange_stands = let is = stands.own.machine in
         call_stands kit by l a c s n p words (machine.Exchange m) (kit.exchanges m) (kit.exchanges (by.exchange_fed m exchange_found)) (in_exchange kit m) stands is.0 (laws.exchanging.packed p.pass.view m is.1)
 

@@ -7,16 +7,14 @@ use Rattle.heap_history.specs.Histories.{is_change}
 use Rattle.heap_history.specs.NewestFirst.{heap_of_history, len_at}
 use Rattle.heap_history.specs.declared.call.Call.{Call}
 use Rattle.barriers.specs.declared.spot.Spot.{Spot}
-use Rattle.barriers.specs.declared.front.Front.{Front}
-use Rattle.barriers.specs.declared.front.Front.TheVariants.{Stays, Now, SealedOrNow}
 use Rattle.barriers.specs.Values.{value_of}
-use Rattle.barriers.specs.Knowns.{Task, Reads, Writes, Exchanges, Ending, Got, Wrote, Done, Differs, Refused, Known, Over, spot_of, task_of, call_of, word_in, front}
+use Rattle.barriers.specs.Knowns.{Task, Reads, Writes, Exchanges, Ending, Got, Wrote, Done, Differs, Refused, Known, Over, spot_of, task_of, call_of, word_in}
 use Rattle.barriers.specs.Events.{grown}
 use Rattle.barriers.specs.Objects.{reply_made}
 use Rattle.barriers.specs.Protocols.{has_made, Suits}
 use Rattle.barriers.specs.Kits.{Kit}
 use Rattle.lawful_records.specs.LawfulRecords.{IsUnborn}
-use Rattle.lawful_records.specs.Turns.{change_call, with_change, seen_by}
+use Rattle.lawful_records.specs.Turns.{change_call, with_change}
 use Rattle.lawful_records.proofs.frames.Unborn.{unread, unmade_write, unmade_exchange}
 use Rattle.lawful_records.proofs.telling.Replies.{EndsSo}
 
@@ -61,12 +59,6 @@ pub reply_changes : (t : Task) (w : FieldWord) → word_in t ≡ Some w → IsTr
 reply_changes Reads w writes = absurd cc
 reply_changes (Writes word) w writes = refl
 reply_changes (Exchanges expected word) w writes = refl
-
--- where nothing is sealed, a look of the call has seen what the record says
-pub look_seen : (f : Front) (h seen : List Call) → seen_by None f h seen ≡ front f None h seen
-look_seen Stays h seen = refl
-look_seen Now h seen = refl
-look_seen SealedOrNow h seen = refl
 
 -- a call makes no object
 pub unmade_call : (h : List Call) (pass : ℕ) (s : Spot) (t : Task) (birth : ℕ) → IsTrue (is_change (answer (heap_of_history h) (call_of pass s t))) → len_at h birth ≡ None → len_at (call_of pass s t ∷ h) birth ≡ None

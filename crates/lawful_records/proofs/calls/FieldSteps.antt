@@ -13,14 +13,14 @@ use Rattle.heap_history.specs.declared.call.Call.{Call}
 use Rattle.handshakes.specs.declared.pass_view.PassView.{PassView}
 use Rattle.barriers.specs.declared.spot.Spot.{Spot}
 use Rattle.barriers.specs.declared.front.Front.{Front}
-use Rattle.barriers.specs.States.{State, Plain, Tagged, Underway, IsLive}
+use Rattle.barriers.specs.States.{State, Plain, Kept, Tagged, Underway, IsLive}
 use Rattle.barriers.specs.Spaces.{Space, Here, here}
 use Rattle.barriers.specs.Says.{Notices, IsAtWord, IsWritten}
 use Rattle.barriers.specs.Cycles.{Cycle, Side}
 use Rattle.barriers.specs.Knowns.{Known, Finds, at_field, has_found, spot_of, task_of, call_of, step_of, hand_of, puts, looks}
-use Rattle.barriers.specs.Events.{May, grown}
+use Rattle.barriers.specs.Events.{Keep, May, grown}
 use Rattle.barriers.specs.Objects.{IsSide, IsCall}
-use Rattle.barriers.specs.Accesses.{found_in, history_after, space_after, side_after, known_after}
+use Rattle.barriers.specs.Accesses.{put_state, found_in, history_after, space_after, side_after, known_after}
 use Rattle.barriers.specs.CallTurns.{CallStep}
 use Rattle.barriers.specs.Protocols.{Protocol, seen_after, word_found}
 use Rattle.barriers.specs.ProtocolLaws.{ProtocolLaws, StepEnd, GoesTo}
@@ -34,28 +34,32 @@ use Rattle.barriers.proofs.words.After.{says_after, rows_after}
 use Rattle.barriers.proofs.words.Calls.{at_word}
 use Rattle.barriers.proofs.words.Found.{found_word, step_inside}
 use Rattle.barriers.proofs.words.Packed.{found_fits}
-use Rattle.lawful_records.specs.Frames.{Grows}
-use Rattle.lawful_records.specs.LawfulRecords.{IsPlain, IsUnborn}
+use Rattle.lawful_records.specs.Frames.{Grows, Left, Same, Untagged}
+use Rattle.lawful_records.specs.LawfulRecords.{IsUnborn}
 use Rattle.lawful_records.specs.Meetings.{FitsHand}
-use Rattle.lawful_records.specs.Turns.{change_call, with_change, seen_by}
-use Rattle.lawful_records.proofs.calls.Changes.{put_change, change_as, grown_as, reply_changes, look_seen, ends_so, unborn_call}
+use Rattle.lawful_records.specs.Turns.{change_call, with_change, seen_by, LooksOn}
+use Rattle.lawful_records.proofs.calls.Changes.{put_change, change_as, grown_as, reply_changes, ends_so, unborn_call}
 use Rattle.lawful_records.proofs.calls.CallSteps.{SameCall, CallStands, CallGoes}
+use Rattle.barriers.proofs.words.Sets.{set_cases}
+use Rattle.lawful_records.proofs.frames.PassStays.{head_same}
 use Rattle.lawful_records.proofs.telling.Meeting.{spot_later, hand_from, hand_found}
 use Rattle.lawful_records.proofs.telling.Replies.{EndsSo}
 use Rattle.lawful_records.proofs.telling.Turning.{seen_grows, pass_of_call}
 use Rattle.lawful_records.proofs.turns.Holding.{side_at}
 use Rattle.lawful_records.proofs.frames.SeenTurns.{seen_by_others}
 
--- of each object the state and the seal are left, and of each region its use and its end
-record Leaves (s t : Space) : Type 0 where
-  state : (a : ℕ) → t.state a ≡ s.state a
-  seal : (a : ℕ) → t.seal a ≡ s.seal a
+-- of each address what is there is left, or its tag is Kept; and of each region its use and its end
+record Leaves (P : Protocol) (s t : Space) : Type 0 where
+  at : (a : ℕ) → Left P s t a
   region : (k : ℕ) → t.region k ≡ s.region k
   ends : (k : ℕ) → t.ends k ≡ s.ends k
 
-module _ {R W E M : Type 0} (kit : Kit R W E M) where
-  untagged : (x : State) → IsPlain kit x → x ≡ Tagged → ⊥
-  untagged x plain tagged = rw tagged at plain
+-- where a tag is Kept
+keeps : (P : Protocol) (s : Space) (z : ℕ) → P.Makes Keep → s.state z ≡ Tagged → (a : ℕ) → Left P s (put_state s z Kept) a
+keeps P s z makes tagged a = elim (set_cases s.state z a Kept) [
+  | inl here ↦ Untagged makes (ap s.state here.0 ∙ tagged) here.1 refl
+  | inr there ↦ Same (record { state = there.1; seal = refl; head = λ is. (refl, refl, refl) })
+]
 
 written : (x : State) → (x ≡ Plain) ⊎ (x ≡ Underway) → IsWritten x
 written x (inl is) = rw is tt
@@ -117,17 +121,17 @@ module _ {R W E M : Type 0} (kit : Kit R W E M) (table : ProtocolLaws kit.protoc
 
     -- ---- the space and the history
 
-    all_left : Leaves s s
-    all_left = record { state = λ a. refl; seal = λ a. refl; region = λ r. refl; ends = λ r. refl }
+    all_left : Leaves P s s
+    all_left = record { at = λ a. Same (head_same s a); region = λ r. refl; ends = λ r. refl }
 
-    leaves : Outcome k found → Leaves s t
+    leaves : Outcome k found → Leaves P s t
     leaves (Still ev e) = rw ev all_left
-    leaves (Keeping ev e) = absurd (untagged kit x.state (stands.plain (spot_of k).at).0 (subst (May c x) ev end.may))
-    leaves (Putting w ev e) = rw ev (record { state = λ a. refl; seal = λ a. refl; region = λ r. refl; ends = λ r. refl })
-    leaves (Putting_copy w ev e) = rw ev (record { state = λ a. refl; seal = λ a. refl; region = λ r. refl; ends = λ r. refl })
-    leaves (Widening w ev e) = rw ev (record { state = λ a. refl; seal = λ a. refl; region = λ r. refl; ends = λ r. refl })
+    leaves (Keeping ev e) = rw ev (record { at = keeps P s (spot_of k).at (subst P.Makes ev end.makes) (subst (May c x) ev end.may); region = λ r. refl; ends = λ r. refl })
+    leaves (Putting w ev e) = rw ev (record { at = λ a. Same (record { state = refl; seal = refl; head = λ is. (refl, refl, refl) }); region = λ r. refl; ends = λ r. refl })
+    leaves (Putting_copy w ev e) = rw ev (record { at = λ a. Same (record { state = refl; seal = refl; head = λ is. (refl, refl, refl) }); region = λ r. refl; ends = λ r. refl })
+    leaves (Widening w ev e) = rw ev (record { at = λ a. Same (record { state = refl; seal = refl; head = λ is. (refl, refl, refl) }); region = λ r. refl; ends = λ r. refl })
 
-    left : Leaves s t
+    left : Leaves P s t
     left = leaves (outcome k found)
 
     told_by : Outcome k found → t.history ≡ history_after c s side k
@@ -158,17 +162,20 @@ module _ {R W E M : Type 0} (kit : Kit R W E M) (table : ProtocolLaws kit.protoc
 
     module _ (change : Option Call) (front : Front) (change_is : change ≡ change_call next v.pass) (front_is : front ≡ looks side.own k found) where
       abbrev now : List Call
-      now = seen_by change front s.history seen
+      now = seen_by change front x.seal s.history seen
+
+      looks_on : LooksOn front x.seal s.history seen
+      looks_on = rw front_is (record { past = end.past; later = end.later })
 
       change_put : change ≡ put_change (puts k found) call
       change_put = change_is ∙ change_as (puts k found) k next v.pass to.spot to.task to.made
 
-      seen_as : (o : Option FieldWord) → seen_by (put_change o call) front s.history seen ≡ seen_after o side (spot_of k) k x found s.history
-      seen_as None = rw (front_is, (stands.plain (spot_of k).at).1) (look_seen (looks side.own k found) s.history seen)
+      seen_as : (o : Option FieldWord) → seen_by (put_change o call) front x.seal s.history seen ≡ seen_after o side (spot_of k) k x found s.history
+      seen_as None = rw front_is refl
       seen_as (Some w) = refl
 
       seen_is : now ≡ (let y = side_after c s side k in y.seen)
-      seen_is = ap (λ change. seen_by change front s.history seen) change_put ∙ seen_as (puts k found)
+      seen_is = ap (λ change. seen_by change front x.seal s.history seen) change_put ∙ seen_as (puts k found)
 
       side_then : IsSide P c t (side_at kit v now)
       side_then = subst (λ h. IsSide P c t (side_at kit v h)) (sym seen_is) made.side
@@ -192,13 +199,14 @@ module _ {R W E M : Type 0} (kit : Kit R W E M) (table : ProtocolLaws kit.protoc
       hand_then = hand_from side.own (hand_of k) (word_found found) (hand_of next) to.hands (subst FitsHand (sym stands.unmarked) tt) (let met = stands.met in met.hand)
           (hand_found found (found_fits k found (memory (place_of (step_of k))) its_word_found))
 
-      comes_to : (after : ℕ → ℕ) → Put memory after (place_of (step_of k)) (put_by (step_of k) (memory (place_of (step_of k)))) → CallGoes kit l c s t n after v seen change front next
+      comes_to : (after : ℕ → ℕ) → Put memory after (place_of (step_of k)) (put_by (step_of k) (memory (place_of (step_of k)))) → CallGoes kit l c s t n after v seen change front x.seal next
       comes_to after put = record {
         says = says_after l memory after s n stands.rows stands.says c side k at_its_word stands.packed put;
         rows = rows_after l c side s k stands.rows at_its_word;
         objects = made.objects;
         lens = made.lens;
-        plain = λ a. rw (left.state a, left.seal a) (stands.plain a);
+        left = left.at;
+        looks = looks_on;
         others = seen_by_others P table c s t stands.objects made.seen;
         regions = λ region. record { word = left.region region; ends = left.ends region };
         change_is = change_is;
@@ -208,14 +216,14 @@ module _ {R W E M : Type 0} (kit : Kit R W E M) (table : ProtocolLaws kit.protoc
         side = side_then;
         call = call_then;
         ends = suits;
-        met = spot_later seen now k next (seen_grows change front s.history seen stands.side.past) to.spot to.task field_there hand_then stands.met;
+        met = spot_later seen now k next (seen_grows change front x.seal s.history seen stands.side.past looks_on) to.spot to.task field_there hand_then stands.met;
       }
 
     -- what its step comes to
     pub field_goes : (after : ℕ → ℕ) → Put memory after (place_of (step_of k)) (put_by (step_of k) (memory (place_of (step_of k))))
         → (then : Known) → then ≡ known_after kit.protocol c s side k → (change : Option Call) → (task_of then ≡ task_of k → EndsSo then → change ≡ change_call then v.pass)
         → (front : Front) → front ≡ looks side.own k (found_in c s k)
-        → SameCall k then × CallGoes kit l c s (space_after c s side k) n after v seen change front then
+        → SameCall k then × CallGoes kit l c s (space_after c s side k) n after v seen change front (s.seal (spot_of k).at) then
     field_goes after put then then_is change change_is front front_is =
-        subst (λ (then : Known). (task_of then ≡ task_of k → EndsSo then → change ≡ change_call then v.pass) → SameCall k then × CallGoes kit l c s t n after v seen change front then) (sym then_is)
+        subst (λ (then : Known). (task_of then ≡ task_of k → EndsSo then → change ≡ change_call then v.pass) → SameCall k then × CallGoes kit l c s t n after v seen change front x.seal then) (sym then_is)
         (λ is. (record { spot = to.spot; task = to.task }, comes_to change front (is to.task suits) front_is after put)) change_is

@@ -19,15 +19,15 @@ use Rattle.barriers.specs.Says.{Notices, IsPacked}
 use Rattle.barriers.specs.Stances.{stance_at}
 use Rattle.barriers.specs.Cycles.{Cycle}
 use Rattle.barriers.specs.Objects.{IsCall}
-use Rattle.barriers.specs.Knowns.{Known}
+use Rattle.barriers.specs.Knowns.{Known, spot_of}
 use Rattle.barriers.specs.Kits.{Kit, Stepping}
 use Rattle.lawful_records.specs.Beginnings.{call_ended, ended_call}
 use Rattle.lawful_records.specs.LawfulRecords.{IsAcked, IsMachine, HasTold, IsPassRecord}
 use Rattle.lawful_records.specs.Making.{IsRoom, has_room}
 use Rattle.lawful_records.specs.Meetings.{HasMade}
-use Rattle.lawful_records.specs.PassTurns.{PassStands, HasTurn, in_machine, found_by, change_in, pass_after}
+use Rattle.lawful_records.specs.PassTurns.{PassStands, HasTurn, in_machine, seal_at, seal_for, found_by, change_in, pass_after}
 use Rattle.lawful_records.specs.Records.{view_by, registers_by, room_by, made_by, number_of, known_of}
-use Rattle.lawful_records.specs.Turns.{pass_asks, pass_fed, front_by, seen_by}
+use Rattle.lawful_records.specs.Turns.{pass_asks, pass_fed, front_by, seen_by, pass_turned, LooksOn}
 use Rattle.lawful_records.specs.declared.records.PassKnown.{PassKnown}
 use Rattle.lawful_records.proofs.calls.CallSteps.{CallStands, CallGoes}
 use Rattle.lawful_records.proofs.frames.Machines.{good_stays, room_stays}
@@ -69,11 +69,17 @@ module _ {R W E M : Type 0} (kit : Kit R W E M) where
     abbrev change : Option Call
     change = change_in kit by (in_machine p m) words
 
+    abbrev seal : Option (List Call)
+    seal = s.seal (let z = spot_of k in z.at)
+
     abbrev now : List Call
-    now = seen_by change (front_by kit by m found) s.history p.seen
+    now = seen_by change (front_by kit by m found) seal s.history p.seen
 
     abbrev q : PassKnown R W E
-    q = pass_after kit by s (in_machine p m) words
+    q = pass_turned kit by seal s.history (in_machine p m) found
+
+    its_seal : seal_for kit by s m ≡ seal
+    its_seal = ap (seal_at s) was.known
 
     -- ---- before its step
 
@@ -94,7 +100,6 @@ module _ {R W E M : Type 0} (kit : Kit R W E M) where
       rows = stands.rows;
       objects = stands.objects;
       lens = stands.lens;
-      plain = stands.plain;
       side = held.side;
       call = call;
       packed = packed;
@@ -104,9 +109,9 @@ module _ {R W E M : Type 0} (kit : Kit R W E M) where
 
     -- ---- after it
 
-    module _ (is : InCall then next) (t : Space) (goes : CallGoes kit l c s t n (reading (applied (pass_asks kit by m) words)) p.pass.view p.seen change (front_by kit by m found) next) (untold : call_ended kit (in_machine p m) ≡ []) where
+    module _ (is : InCall then next) (t : Space) (goes : CallGoes kit l c s t n (reading (applied (pass_asks kit by m) words)) p.pass.view p.seen change (front_by kit by m found) seal next) (untold : call_ended kit (in_machine p m) ≡ []) where
       past : Before p.seen now
-      past = seen_grows change (front_by kit by m found) s.history p.seen held.side.past
+      past = seen_grows change (front_by kit by m found) seal s.history p.seen held.side.past goes.looks
 
       runs : p.pass.view.acked ≢ retired_word
       runs = was.runs p.pass.view.acked (rw (was.view p.pass.view) at stood.retired)
@@ -131,6 +136,9 @@ module _ {R W E M : Type 0} (kit : Kit R W E M) where
       number : number_of q ≡ number_of (in_machine p m)
       number = ap (λ (v : PassView). v.pass) (is.view p.pass.view) ∙ sym same_number
 
+      number_after : number_of (pass_after kit by s (in_machine p m) words) ≡ number_of (in_machine p m)
+      number_after = subst (λ (seal : Option (List Call)). number_of (pass_turned kit by seal s.history (in_machine p m) found) ≡ number_of (in_machine p m)) (sym its_seal) number
+
       abbrev Tells : ℕ → List EndedCall → Type 0
       Tells pass es = Ends s.history change pass now es
 
@@ -139,15 +147,15 @@ module _ {R W E M : Type 0} (kit : Kit R W E M) where
       tells_so =
           let pass = p.pass.view.pass in
           let front = front_by kit by m found in
-          let after : Option Call → List Call = λ change. seen_by change front s.history p.seen in
+          let after : Option Call → List Call = λ change. seen_by change front seal s.history p.seen in
           subst (λ change. IsCallTold pass (after change) next → Ends s.history change pass (after change) (ended_call (Some next) pass (length (after change)))) (sym goes.change_is)
-          (call_ends s.history p.seen pass next front) (record { suits = goes.ends; answered = goes.call.answered; met = goes.met; made = goes.call.made })
+          (call_ends s.history p.seen pass next front seal) (record { suits = goes.ends; answered = goes.call.answered; met = goes.met; made = goes.call.made })
 
       tells : Tells (number_of (in_machine p m)) (call_ended kit q)
       tells = subst (Tells (number_of (in_machine p m))) (sym (is.ended q)) (subst (λ pass. Tells pass (ended_call (Some next) p.pass.view.pass (length now))) (sym same_number) tells_so)
 
       told : HasTold kit t.history q
-      told = subst (λ h. HasTold kit h q) (sym goes.history) (told_step kit by s.history (in_machine p m) then change (front_by kit by m found) number held.side.past untold tells stood.told)
+      told = subst (λ h. HasTold kit h q) (sym goes.history) (told_step kit by s.history (in_machine p m) then change (front_by kit by m found) seal number held.side.past goes.looks untold tells stood.told)
 
       own : IsMachine kit l c t n q then → IsPassRecord kit l a c t n q
       own machine_is = record_of kit l a c t n q (rw (is.view p.pass.view, is.registers p.pass.registers) holds) (record {
@@ -170,7 +178,6 @@ module _ {R W E M : Type 0} (kit : Kit R W E M) where
           rows = goes.rows;
           objects = goes.objects;
           lens = goes.lens;
-          plain = goes.plain;
           beside = record {
             seen = goes.others;
             acks = λ other apart. refl;
@@ -178,10 +185,12 @@ module _ {R W E M : Type 0} (kit : Kit R W E M) where
             phase = refl;
             mark = refl;
             regions = λ pass region is other own. goes.regions region;
+            left = goes.left;
             history = rw same_number goes.grows;
           };
           history = goes.history;
-          number = number;
-          own = own machine_is;
+          number = number_after;
+          looks = subst (λ (seal : Option (List Call)). LooksOn (front_by kit by m found) seal s.history p.seen) (sym its_seal) goes.looks;
+          own = subst (λ (seal : Option (List Call)). IsPassRecord kit l a c t n (pass_turned kit by seal s.history (in_machine p m) found)) (sym its_seal) (own machine_is);
         };
       }

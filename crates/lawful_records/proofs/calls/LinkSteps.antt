@@ -28,12 +28,14 @@ use Rattle.barriers.specs.Protocols.{OnHand, AnswersSo, Suits, has_made}
 use Rattle.barriers.specs.Kits.{Kit}
 use Rattle.barriers.proofs.words.Calls.{holds_fits}
 use Rattle.barriers.proofs.words.Frames.{says_same, put_same}
+use Rattle.lawful_records.specs.Frames.{Same}
 use Rattle.lawful_records.specs.LawfulRecords.{IsMoved}
 use Rattle.lawful_records.specs.Meetings.{FitsHand}
 use Rattle.lawful_records.specs.Turns.{change_call}
 use Rattle.lawful_records.proofs.calls.Changes.{change_none}
 use Rattle.lawful_records.proofs.calls.CallSteps.{SameCall, CallStands, CallGoes}
-use Rattle.lawful_records.proofs.frames.PassStays.{seen_same}
+use Rattle.lawful_records.proofs.frames.PassStays.{head_same, seen_same}
+use Rattle.lawful_records.proofs.parties.Pasts.{looks_not}
 use Rattle.lawful_records.proofs.telling.Meeting.{spot_later}
 use Rattle.lawful_records.proofs.telling.Replies.{EndsSo}
 use Rattle.lawful_records.proofs.turns.Holding.{side_at}
@@ -75,13 +77,14 @@ module _ {R W E M : Type 0} (kit : Kit R W E M) (l : Sizes) (c : Cycle) (s : Spa
       made = λ e. absurd (let look = is.look in cc);
     }
 
-    ends_goes : (end : Ending) → EndsFound seen s z t end → (after : ℕ → ℕ) → Put memory after at (memory at) → CallGoes kit l c s s n after v seen None Stays (Over z t end)
-    ends_goes end is after put = record {
+    ends_goes : (seal : Option (List Call)) (end : Ending) → EndsFound seen s z t end → (after : ℕ → ℕ) → Put memory after at (memory at) → CallGoes kit l c s s n after v seen None Stays seal (Over z t end)
+    ends_goes seal end is after put = record {
       says = says_same l memory after s n (put_same memory after at (memory at) put refl) stands.rows stands.says;
       rows = stands.rows;
       objects = stands.objects;
       lens = stands.lens;
-      plain = stands.plain;
+      left = λ a. Same (head_same s a);
+      looks = looks_not seal s.history seen stands.side.past;
       others = seen_same kit.protocol c s;
       regions = λ region. record { word = refl; ends = refl };
       change_is = sym (change_none (Over z t end) v.pass is.look);
@@ -116,12 +119,12 @@ module _ {R W E M : Type 0} (kit : Kit R W E M) (l : Sizes) (c : Cycle) (s : Spa
   pub follow_goes : (t : Task) (f : FollowMachine) → CallStands kit l c s n memory v seen (Follows z t f) → follows.asks_of f ≢ Ended
       → (after : ℕ → ℕ) → Put memory after (place_of (follows.asks_of f)) (put_by (follows.asks_of f) (memory (place_of (follows.asks_of f))))
       → (then : Known) → then ≡ followed z t (follows.fed_of f (memory (place_of (follows.asks_of f)))) → (change : Option Call) → (task_of then ≡ t → EndsSo then → change ≡ change_call then v.pass)
-      → (front : Front) → front ≡ Stays
-      → SameCall (Follows z t f) then × CallGoes kit l c s s n after v seen change front then
-  follow_goes t (follow.Ended end) stands on after put then then_is change change_is front front_is = absurd (on refl)
-  follow_goes t (follow.Header birth at) stands on after put then then_is change change_is front front_is =
+      → (front : Front) → front ≡ Stays → (seal : Option (List Call))
+      → SameCall (Follows z t f) then × CallGoes kit l c s s n after v seen change front seal then
+  follow_goes t (follow.Ended end) stands on after put then then_is change change_is front front_is seal = absurd (on refl)
+  follow_goes t (follow.Header birth at) stands on after put then then_is change change_is front front_is seal =
       let end : Ending = found_ending t (word t birth at stands) in
       let is : EndsFound seen s z t end = found_ends t birth at stands in
       let none = change_none (Over z t end) v.pass is.look in
-      subst (λ (then : Known). (task_of then ≡ t → EndsSo then → change ≡ change_call then v.pass) → SameCall (Follows z t (follow.Header birth at)) then × CallGoes kit l c s s n after v seen change front then) (sym then_is)
-      (λ made. (record { spot = refl; task = refl }, rw (made refl is.suits ∙ none, front_is) (ends_goes t birth at stands end is after put))) change_is
+      subst (λ (then : Known). (task_of then ≡ t → EndsSo then → change ≡ change_call then v.pass) → SameCall (Follows z t (follow.Header birth at)) then × CallGoes kit l c s s n after v seen change front seal then) (sym then_is)
+      (λ made. (record { spot = refl; task = refl }, rw (made refl is.suits ∙ none, front_is) (ends_goes t birth at stands seal end is after put))) change_is

@@ -25,12 +25,12 @@ use Rattle.lawful_records.proofs.telling.Replies.{EndsSo}
 use Rattle.lawful_records.proofs.turns.Holding.{side_at}
 
 -- a call is at a field, or follows a link, or is over
-data Standing (k : Known) : Type 0 where
+pub data Standing (k : Known) : Type 0 where
   At : at_field k ≡ Some (spot_of k) → Standing k
   Leads : (f : FollowMachine) → k ≡ Follows (spot_of k) (task_of k) f → Standing k
   Stops : step_of k ≡ Ended → Standing k
 
-standing : (k : Known) → Standing k
+pub standing : (k : Known) → Standing k
 standing (Follows s t f) = Leads f refl
 standing (Over s t end) = Stops refl
 standing k = At refl
@@ -49,7 +49,7 @@ module _ {R W E M K End : Type 0} (kit : Kit R W E M) (table : ProtocolLaws kit.
     pub keeps : For v (fed m found)
     pub same : SameCall (knows m) (knows (fed m found))
     pub space : Space
-    pub goes : CallGoes kit l c s space n after v seen change (fronts m found) (knows (fed m found))
+    pub goes : CallGoes kit l c s space n after v seen change (fronts m found) (s.seal (let z = spot_of (knows m) in z.at)) (knows (fed m found))
 
   pub machine_goes : asks m ≢ Ended → (after : ℕ → ℕ) → Put memory after (place_of (asks m)) (put_by (asks m) found)
       → (change : Option Call) → (task_of (knows (fed m found)) ≡ task_of (knows m) → EndsSo (knows (fed m found)) → change ≡ change_call (knows (fed m found)) v.pass)
@@ -85,7 +85,7 @@ module _ {R W E M K End : Type 0} (kit : Kit R W E M) (table : ProtocolLaws kit.
           subst (λ (step : Step). Put memory after (place_of step) (put_by step (memory (place_of step)))) asked put in
           let fed_is : knows (fed m found) ≡ followed (spot_of k) (task_of k) (follows.fed_of f (memory (place_of (follows.asks_of f)))) =
           on_link.0 ∙ ap (λ (step : Step). followed (spot_of k) (task_of k) (follows.fed_of f (memory (place_of step)))) asked in
-          let gone = follow_goes kit l c s n memory v seen (spot_of k) (task_of k) f (subst (CallStands kit l c s n memory v seen) is stands) runs_on after put_link (knows (fed m found)) fed_is change change_is (fronts m found) on_link.2 in
+          let gone = follow_goes kit l c s n memory v seen (spot_of k) (task_of k) f (subst (CallStands kit l c s n memory v seen) is stands) runs_on after put_link (knows (fed m found)) fed_is change change_is (fronts m found) on_link.2 (s.seal (let z = spot_of k in z.at)) in
           record { keeps = on_link.1; same = subst (λ (x : Known). SameCall x (knows (fed m found))) (sym is) gone.0; space = s; goes = gone.1 }
 
       by_standing : Standing k → MachineGoes after change

@@ -19,7 +19,7 @@ use Rattle.barriers.specs.Spaces.{Space}
 use Rattle.barriers.specs.Says.{Notices, Says}
 use Rattle.barriers.specs.Rows.{Rows}
 use Rattle.barriers.specs.Objects.{AreObjects}
-use Rattle.barriers.specs.Cycles.{Side, Handshaken}
+use Rattle.barriers.specs.Cycles.{Side, IsMoving, Handshaken}
 use Rattle.barriers.specs.Stances.{Retired, stance_at}
 use Rattle.barriers.specs.CycleLaws.{CycleLaws}
 use Rattle.barriers.specs.ProtocolLaws.{ProtocolLaws}
@@ -34,9 +34,9 @@ use Rattle.lawful_records.specs.declared.collector.CollectorMachine.{CollectorMa
 use Rattle.lawful_records.specs.declared.collector.CollectorMachine.TheVariants as collector
 use Rattle.lawful_records.specs.Collectors.{asks_of, fed_of, look, announced_of, word_of, is_await, begun_by, with_await, awaits_behind, AreEarlier}
 use Rattle.lawful_records.specs.HeaderChanges.{HeadersChange}
-use Rattle.lawful_records.specs.Cycling.{announced_by, cycle_of, late_by, told_by}
+use Rattle.lawful_records.specs.Cycling.{announced_by, cycle_of, told_by}
 use Rattle.lawful_records.specs.Handshakes.{IsCollector}
-use Rattle.lawful_records.specs.LawfulRecords.{IsPlain, IsPassRecord, IsCollectorRecord, IsParty, LawfulRecords}
+use Rattle.lawful_records.specs.LawfulRecords.{IsPassRecord, IsCollectorRecord, IsParty, LawfulRecords}
 use Rattle.lawful_records.specs.Records.{number_of, acked_of, side_of}
 use Rattle.lawful_records.specs.Turns.{collector_turned, party_asks, turned}
 use Rattle.lawful_records.specs.declared.records.PassKnown.{PassKnown}
@@ -138,7 +138,7 @@ module _ {R W E M : Type 0} (kit : Kit R W E M) (by : Stepping R W E M) (table :
     awaited : AreEarlier (length s.history) counts
     each : All (IsParty kit l k s n) others
 
-  module _ (s : Space) (n : Notices) (layout : IsLayout l) (plain : (a : ℕ) → IsPlain kit (s.state a)) (k : CollectorMachine) (cycles : ℕ) (few : cycles ≤ 64) (is : IsCollector l cycles k) (announced : n.phase ≡ (let a = announced_by k in a.word)) (objects : AreObjects kit.protocol (cycle_of k) s)
+  module _ (s : Space) (n : Notices) (layout : IsLayout l) (resting : (a : ℕ) → IsMoving (s.state a) → ⊥) (k : CollectorMachine) (cycles : ℕ) (few : cycles ≤ 64) (is : IsCollector l cycles k) (announced : n.phase ≡ (let a = announced_by k in a.word)) (objects : AreObjects kit.protocol (cycle_of k) s)
       (has : HasHeard l words s n k) where
     abbrev next : CollectorMachine
     next = fed_of k (found_in k words)
@@ -150,7 +150,7 @@ module _ {R W E M : Type 0} (kit : Kit R W E M) (by : Stepping R W E M) (table :
     leads = advances l cycles k n.ack (found_in k words) is has.finds
 
     turned_space : AreObjects kit.protocol (cycle_of next) s
-    turned_space = turned_objects kit table cycle s plain (late_by k) (late_by next) (stance_at (announced_of k)) (stance_at (announced_of next)) (told_by k) (told_by next) objects
+    turned_space = turned_objects kit table cycle s resting (stance_at (announced_of k)) (stance_at (announced_of next)) (told_by k) (told_by next) objects
 
     module _ (p : PassKnown R W E) (own : IsPassRecord kit l (announced_by k) (cycle_of k) s n p) where
       abbrev side : Side
@@ -168,15 +168,15 @@ module _ {R W E M : Type 0} (kit : Kit R W E M) (by : Stepping R W E M) (table :
       shaken : acked ≢ retired_word → Handshaken (cycle_of next) side
       shaken runs = (announced_is l cycles few next goes).shaken side acked own.number answers runs refl ((own.shaken runs).own ∙ none_own side.acked)
 
-      fits : Fits kit table cycle s plain (cycle_of k) (cycle_of next) side
+      fits : Fits kit table cycle s resting (cycle_of k) (cycle_of next) side
       fits = record { before = λ on. own.shaken (runs_by on); after = λ on. shaken (runs_by on) }
 
       hears : Hears kit (announced_by k) (announced_by next) (cycle_of k) (cycle_of next) s n has.notices p
       hears = record {
         ack = has.acks (number_of p);
         roots = has.roots (number_of p);
-        side = turned_side kit table cycle s plain (late_by k) (late_by next) (stance_at (announced_of k)) (stance_at (announced_of next)) (told_by k) (told_by next) objects side fits own.side;
-        call = turned_call kit table cycle s plain (late_by k) (late_by next) (stance_at (announced_of k)) (stance_at (announced_of next)) (told_by k) (told_by next) objects side fits;
+        side = turned_side kit table cycle s resting (stance_at (announced_of k)) (stance_at (announced_of next)) (told_by k) (told_by next) objects side fits own.side;
+        call = turned_call kit table cycle s resting (stance_at (announced_of k)) (stance_at (announced_of next)) (told_by k) (told_by next) objects side fits;
         answers = answers;
         shaken = shaken;
         waits = λ runs apart. (
@@ -205,9 +205,6 @@ module _ {R W E M : Type 0} (kit : Kit R W E M) (by : Stepping R W E M) (table :
     collector_inside = steps_inside l stands.cycles q.machine stands.collects
 
     module _ (on : asks_of q.machine ≢ Ended) where
-      plain : (a : ℕ) → IsPlain kit (w.space.state a)
-      plain a = (w.plain a).0
-
       has : HasHeard l words w.space w.notices q.machine
       has = heard l stands.cycles words w.space w.notices w.layout w.width w.rows w.says q.machine stands.collects on stands.announced
 
@@ -221,19 +218,20 @@ module _ {R W E M : Type 0} (kit : Kit R W E M) (by : Stepping R W E M) (table :
         announced = has.phase;
         unmarked = has.mark ∙ w.unmarked;
         rows = w.rows;
-        objects = turned_space w.space w.notices w.layout plain q.machine stands.cycles stands.few stands.collects stands.announced stands.objects has;
+        objects = turned_space w.space w.notices w.layout w.resting q.machine stands.cycles stands.few stands.collects stands.announced stands.objects has;
         lens = w.lens;
-        plain = w.plain;
+        resting = w.resting;
         history = refl;
         own = record {
           machine = refl;
           cycles = stands.cycles;
           few = stands.few;
-          collects = goes w.space w.notices w.layout plain q.machine stands.cycles stands.few stands.collects stands.announced stands.objects has;
+          collects = goes w.space w.notices w.layout w.resting q.machine stands.cycles stands.few stands.collects stands.announced stands.objects has;
           awaited = earlier_after q.machine (fed_of q.machine (found_in q.machine words)) (length w.space.history) q.awaited stands.awaited;
+          sealed = own.sealed;
         };
         each = others_hear kit l q.machine (fed_of q.machine (found_in q.machine words)) w.space w.notices has.notices others (others_pass kit l q others w.parties)
-            (hears w.space w.notices w.layout plain q.machine stands.cycles stands.few stands.collects stands.announced stands.objects has) stands.each;
+            (hears w.space w.notices w.layout w.resting q.machine stands.cycles stands.few stands.collects stands.announced stands.objects has) stands.each;
       }
 
       -- after a turn of the collector records are lawful

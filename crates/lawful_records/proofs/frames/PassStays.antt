@@ -6,11 +6,13 @@ use Rattle.handshakes.specs.Polling.{held_in}
 use Rattle.heap_history.specs.declared.call.Call.{Call}
 use Rattle.barriers.specs.Spaces.{Space}
 use Rattle.barriers.specs.Says.{Notices}
+use Rattle.barriers.specs.Rows.{Rows}
 use Rattle.barriers.specs.Cycles.{Cycle}
 use Rattle.barriers.specs.Protocols.{Protocol}
 use Rattle.barriers.specs.Kits.{Kit}
 use Rattle.lawful_records.specs.Collectors.{AreEarlier}
-use Rattle.lawful_records.specs.Frames.{Grows, SeenBy, Beside}
+use Rattle.lawful_records.specs.Cycling.{cycle_of}
+use Rattle.lawful_records.specs.Frames.{Grows, SeenBy, IsSameHead, Same, Beside}
 use Rattle.lawful_records.specs.LawfulRecords.{IsPassRecord, IsCollectorRecord}
 use Rattle.lawful_records.specs.Records.{number_of, side_of, registers_by, room_by, made_by}
 use Rattle.lawful_records.specs.declared.collector.Awaited.{Awaited}
@@ -18,8 +20,12 @@ use Rattle.lawful_records.specs.declared.collector.CollectorMachine.{CollectorMa
 use Rattle.lawful_records.specs.declared.records.PassKnown.{PassKnown}
 use Rattle.lawful_records.specs.declared.records.CollectorKnown.{CollectorKnown}
 use Rattle.lawful_records.proofs.frames.Machines.{good_stays, room_stays, machine_stays}
+use Rattle.lawful_records.proofs.frames.SealStays.{sealed_stays}
 use Rattle.lawful_records.proofs.frames.Unborn.{unborn_stays}
 use Rattle.lawful_records.proofs.telling.Telling.{told_grows}
+
+pub head_same : (s : Space) (at : ℕ) → IsSameHead s s at
+head_same s at = record { state = refl; seal = refl; head = λ there. (refl, refl, refl) }
 
 pub seen_same : (P : Protocol) (c : Cycle) (s : Space) → SeenBy P c s s
 seen_same P c s = record { holds = λ birth at is. is; side = λ x is. is; call = λ x k side is. is; heads = λ at live. record { live = live; birth = refl; len = refl; colour = refl } }
@@ -40,13 +46,14 @@ earlier_later few more h less are = record {
 }
 
 module _ {R W E M : Type 0} (kit : Kit R W E M) where
-  pub collector_stays : (l : Sizes) (k : CollectorMachine) (m : ℕ) (s t : Space) (q : CollectorKnown) → Grows m s.history t.history → IsCollectorRecord kit l k s q → IsCollectorRecord kit l k t q
-  collector_stays l k m s t q grows is = record {
+  pub collector_stays : (l : Sizes) (k : CollectorMachine) (m : ℕ) (s t : Space) (n o : Notices) (q : CollectorKnown) → Rows l t.state t.len t.ends t.region → Beside kit l (cycle_of k) m s t n o → IsCollectorRecord kit l k s q → IsCollectorRecord kit l k t q
+  collector_stays l k m s t n o q rows beside is = record {
     machine = is.machine;
     cycles = is.cycles;
     few = is.few;
     collects = is.collects;
-    awaited = earlier_later (length s.history) (length t.history) q.awaited (grows_length m s.history t.history grows) is.awaited;
+    awaited = earlier_later (length s.history) (length t.history) q.awaited (grows_length m s.history t.history beside.history) is.awaited;
+    sealed = sealed_stays kit.protocol l s t rows beside.left beside.seen.heads q.sealed is.sealed;
   }
 
   -- ---- a pass's
@@ -60,6 +67,7 @@ module _ {R W E M : Type 0} (kit : Kit R W E M) where
     phase = refl;
     mark = refl;
     regions = λ pass region is other own. record { word = refl; ends = refl };
+    left = λ at. Same (head_same s at);
     history = inl refl;
   }
 

@@ -44,7 +44,7 @@ module _ {R W E M : Type 0} (kit : Kit R W E M) (l : Sizes) where
 
   module _ (cycles : ℕ) where
     abbrev last : Party R W E
-    last = party.Collector (record { machine = collector_of l cycles; awaited = none_awaited })
+    last = party.Collector (record { machine = collector_of l cycles; awaited = none_awaited; sealed = [] })
 
     pub opening_counts : AreParties kit l (opening_parties l cycles)
     opening_counts = record {

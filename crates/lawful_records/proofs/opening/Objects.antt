@@ -10,12 +10,11 @@ use Rattle.wide_objects.specs.Statuses.{InOriginal}
 use Rattle.barriers.specs.States.{State, Absent, Plain, Wide, Moving, Forward, IsHome, IsLive}
 use Rattle.barriers.specs.Spaces.{Space, Zone, Original, Between, Copied, zone, pick, here, copy_word}
 use Rattle.barriers.specs.Says.{opening_space}
-use Rattle.barriers.specs.Cycles.{Cycle}
+use Rattle.barriers.specs.Cycles.{Cycle, IsMoving}
 use Rattle.barriers.specs.Objects.{AreObjects, HasLens, IsForward, IsCarrying}
 use Rattle.barriers.specs.Protocols.{OnHand, TargetIs}
 use Rattle.barriers.specs.Kits.{Kit, Stepping, Laws}
 use Rattle.barriers.proofs.words.Sets.{set_cases}
-use Rattle.lawful_records.specs.LawfulRecords.{IsUnsealed}
 
 -- ---- the values of its fields
 
@@ -59,13 +58,14 @@ module _ (l : Sizes) where
   first : (a : ℕ) → IsLive (S.state a) → a ≡ first_word l 0
   first a live = elim (set_cases (λ a. Absent) (first_word l 0) a Plain) [ inl q ↦ q.0 | inr q ↦ absurd (rw q.1 at live) ]
 
+  -- nothing is on its way
+  pub opening_resting : (a : ℕ) → IsMoving (S.state a) → ⊥
+  opening_resting a moving = elim (set_cases (λ a. Absent) (first_word l 0) a Plain) [ inl q ↦ rw q.1 at moving | inr q ↦ rw q.1 at moving ]
+
   pub opening_lens : HasLens S
   opening_lens a live = refl
 
   module _ {R W E M : Type 0} (kit : Kit R W E M) where
-    pub opening_plain : (a : ℕ) → IsUnsealed kit (S.state a) (S.seal a)
-    opening_plain a = elim (set_cases (λ a. Absent) (first_word l 0) a Plain) [ inl q ↦ rw q.1 (tt, refl) | inr q ↦ rw q.1 (tt, refl) ]
-
     module _ (by : Stepping R W E M) (laws : Laws kit by) (c : Cycle) (mark : c.mark ≡ None) (clear : c.clear ≡ false) where
       pub opening_objects : AreObjects kit.protocol c S
       opening_objects = record {

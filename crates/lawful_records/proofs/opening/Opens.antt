@@ -3,7 +3,7 @@ use Rattle.std.specs.Prelude.{map, nat_lt, slice_set, replicate}
 use Rattle.std.specs.List.{All, Contains}
 use Rattle.std.proofs.Common.{◌≡◌, ℕ, zero, suc, ◌+◌, ◌<◌, ◌≤◌, List, [], ◌∷◌, ◌++◌, length-set, refl, sym, ap, ◌∙◌, arith}
 use Rattle.std.proofs.lemmas.List.{length-replicate}
-use Rattle.std.proofs.lemmas.List.Elements.{All-cons}
+use Rattle.std.proofs.lemmas.List.Elements.{All-nil, All-cons}
 use Rattle.call_steps.specs.StepLaws.{reading}
 use Rattle.heap_words.specs.Layouts.{Sizes, IsLayout, words_of, region_at, first_word}
 use Rattle.space_reclaim.specs.declared.region_word.RegionWord.TheVariants.{Filled}
@@ -15,7 +15,7 @@ use Rattle.barriers.specs.Kits.{Kit, Stepping, Laws}
 use Rattle.barriers.proofs.words.Opening.{is_opening, opening_rows, opening_says}
 use Rattle.lawful_records.specs.Collectors.{collector_of, stage_at_start, word_of, announced_of, none_awaited}
 use Rattle.lawful_records.specs.Cycling.{announced_by, cycle_of}
-use Rattle.lawful_records.specs.LawfulRecords.{IsParty, IsHistoryOf, LawfulRecords}
+use Rattle.lawful_records.specs.LawfulRecords.{IsParty, IsHistoryOf, IsThereSealed, LawfulRecords}
 use Rattle.lawful_records.specs.Opening.{opening_words, opening_passes, opening_pass, opening_parties}
 use Rattle.lawful_records.specs.PassTurns.{IsAnnounced}
 use Rattle.lawful_records.specs.Records.{seen_of}
@@ -26,7 +26,7 @@ use Rattle.lawful_records.proofs.collecting.Playing.{plays_from_start, stage_beh
 use Rattle.lawful_records.proofs.collecting.Stages.{announced_is}
 use Rattle.lawful_records.proofs.opening.Counting.{opening_counts}
 use Rattle.lawful_records.proofs.opening.FirstRecords.{first_record}
-use Rattle.lawful_records.proofs.opening.Objects.{opening_lens, opening_plain, opening_objects}
+use Rattle.lawful_records.proofs.opening.Objects.{opening_lens, opening_resting, opening_objects}
 
 -- ---- the announced word
 
@@ -50,7 +50,7 @@ module _ {R W E M : Type 0} (kit : Kit R W E M) (by : Stepping R W E M) (laws : 
   k = collector_of l cycles
 
   abbrev last : Party R W E
-  last = party.Collector (record { machine = k; awaited = none_awaited })
+  last = party.Collector (record { machine = k; awaited = none_awaited; sealed = [] })
 
   announcement : IsAnnounced l (announced_by k) (cycle_of k)
   announcement = announced_is l cycles few k (plays_from_start l cycles)
@@ -85,9 +85,9 @@ module _ {R W E M : Type 0} (kit : Kit R W E M) (by : Stepping R W E M) (laws : 
     rows = opening_rows l (omega (arith, fits.pool.0));
     objects = opening_objects l kit by laws (cycle_of k) refl refl;
     lens = opening_lens l;
-    plain = opening_plain l kit;
+    resting = opening_resting l;
     history = history;
     each = all_passes (IsParty kit l k (opening_space l) opening_notices) l 1 l.passes
         (λ pass low high. first_record kit by laws l fits (announced_by k) (cycle_of k) announcement (announced_at_start l cycles) pass (low, omega (arith, high)))
-        last (record { machine = refl; cycles = cycles; few = few; collects = plays_from_start l cycles; awaited = record { mark = omega arith; confirm = omega arith; copy = omega arith; fix = omega arith; free = omega arith } });
+        last (record { machine = refl; cycles = cycles; few = few; collects = plays_from_start l cycles; awaited = record { mark = omega arith; confirm = omega arith; copy = omega arith; fix = omega arith; free = omega arith }; sealed = record { there = All-nil (IsThereSealed (opening_space l)); seals = λ a f live inside. refl } });
   }

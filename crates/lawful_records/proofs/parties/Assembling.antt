@@ -11,10 +11,11 @@ use Rattle.barriers.specs.Spaces.{Space}
 use Rattle.barriers.specs.Says.{Notices, Says}
 use Rattle.barriers.specs.Rows.{Rows}
 use Rattle.barriers.specs.Objects.{AreObjects, HasLens}
+use Rattle.barriers.specs.Cycles.{IsMoving}
 use Rattle.barriers.specs.Kits.{Kit}
 use Rattle.lawful_records.specs.Cycling.{announced_by, cycle_of}
 use Rattle.lawful_records.specs.Frames.{Beside}
-use Rattle.lawful_records.specs.LawfulRecords.{IsUnsealed, IsPassRecord, IsCollectorRecord, IsParty, LawfulRecords}
+use Rattle.lawful_records.specs.LawfulRecords.{IsPassRecord, IsCollectorRecord, IsParty, LawfulRecords}
 use Rattle.lawful_records.specs.Records.{number_of}
 use Rattle.lawful_records.specs.declared.collector.CollectorMachine.{CollectorMachine}
 use Rattle.lawful_records.specs.declared.records.PassKnown.{PassKnown}
@@ -22,6 +23,7 @@ use Rattle.lawful_records.specs.declared.records.CollectorKnown.{CollectorKnown}
 use Rattle.lawful_records.specs.declared.records.Party.{Party}
 use Rattle.lawful_records.specs.declared.records.Party.TheVariants as party
 use Rattle.lawful_records.proofs.frames.PassStays.{beside_same, pass_stays, collector_stays}
+use Rattle.lawful_records.proofs.frames.SealStays.{rests_on}
 use Rattle.lawful_records.proofs.parties.Counts.{IsOther, parties_turn, parties_regroup, others_differ}
 use Rattle.lawful_records.proofs.parties.Pasts.{SeesOn, sees_same, history_turn, history_regroup}
 
@@ -48,21 +50,21 @@ module _ {R W E M : Type 0} (kit : Kit R W E M) where
     rows = w.rows;
     objects = w.objects;
     lens = w.lens;
-    plain = w.plain;
+    resting = w.resting;
     history = history_regroup kit l w.space.history rs qs moves w.history;
     each = All-permutation (IsParty kit l w.collector w.space w.notices) rs qs moves w.each;
   }
 
   -- ---- a turn
 
-  party_stays : (l : Sizes) (k : CollectorMachine) (m : ℕ) (s t : Space) (n o : Notices) → Beside kit l (cycle_of k) m s t n o → (r : Party R W E) → IsOther m r → IsParty kit l k s n r → IsParty kit l k t o r
-  party_stays l k m s t n o beside (party.Pass p) other is = pass_stays kit l (announced_by k) (cycle_of k) m s t n o p other beside is
-  party_stays l k m s t n o beside (party.Collector q) other is = collector_stays kit l k m s t q beside.history is
+  party_stays : (l : Sizes) (k : CollectorMachine) (m : ℕ) (s t : Space) (n o : Notices) → Rows l t.state t.len t.ends t.region → Beside kit l (cycle_of k) m s t n o → (r : Party R W E) → IsOther m r → IsParty kit l k s n r → IsParty kit l k t o r
+  party_stays l k m s t n o rows beside (party.Pass p) other is = pass_stays kit l (announced_by k) (cycle_of k) m s t n o p other beside is
+  party_stays l k m s t n o rows beside (party.Collector q) other is = collector_stays kit l k m s t n o q rows beside is
 
   -- where one pass moves, the others stay
-  pub others_stay : (l : Sizes) (k : CollectorMachine) (m : ℕ) (s t : Space) (n o : Notices) (others : List (Party R W E)) → Beside kit l (cycle_of k) m s t n o → All (IsOther m) others → All (IsParty kit l k s n) others → All (IsParty kit l k t o) others
-  others_stay l k m s t n o others beside other each i d within =
-      party_stays l k m s t n o beside (get_or others i d) (other i d within) (each i d within)
+  pub others_stay : (l : Sizes) (k : CollectorMachine) (m : ℕ) (s t : Space) (n o : Notices) (others : List (Party R W E)) → Rows l t.state t.len t.ends t.region → Beside kit l (cycle_of k) m s t n o → All (IsOther m) others → All (IsParty kit l k s n) others → All (IsParty kit l k t o) others
+  others_stay l k m s t n o others rows beside other each i d within =
+      party_stays l k m s t n o rows beside (get_or others i d) (other i d within) (each i d within)
 
   -- What a pass's turn makes of the space and the notices, where it was p and is q, and the words are these.
   pub record PassMoved (l : Sizes) (k : CollectorMachine) (s : Space) (n : Notices) (p : PassKnown R W E) (words : List ℕ) (t : Space) (o : Notices) (q : PassKnown R W E) : Type 0 where
@@ -71,7 +73,6 @@ module _ {R W E M : Type 0} (kit : Kit R W E M) where
     pub rows : Rows l t.state t.len t.ends t.region
     pub objects : AreObjects kit.protocol (cycle_of k) t
     pub lens : HasLens t
-    pub plain : (a : ℕ) → IsUnsealed kit (t.state a) (t.seal a)
     pub beside : Beside kit l (cycle_of k) (number_of p) s t n o
     pub number : number_of q ≡ number_of p
     pub sees : SeesOn s.history t.history p.seen q.seen
@@ -96,9 +97,9 @@ module _ {R W E M : Type 0} (kit : Kit R W E M) where
         rows = moved.rows;
         objects = moved.objects;
         lens = moved.lens;
-        plain = moved.plain;
+        resting = λ at. rests_on kit.protocol w.space t at (moved.beside.left at) (w.resting at);
         history = history_turn kit l (number_of p) w.space.history t.history (party.Pass p) (party.Pass q) others moved.sees moved.beside.history (inr its.number) w.history;
-        each = All-cons Q (party.Pass q) others moved.own (others_stay l w.collector (number_of p) w.space t w.notices o others moved.beside apart (All-tail P (party.Pass p) others w.each));
+        each = All-cons Q (party.Pass q) others moved.own (others_stay l w.collector (number_of p) w.space t w.notices o others moved.rows moved.beside apart (All-tail P (party.Pass p) others w.each));
       }
 
   -- What the collector's turn makes of them, where its machine is then this one.
@@ -110,7 +111,7 @@ module _ {R W E M : Type 0} (kit : Kit R W E M) where
     pub rows : Rows l t.state t.len t.ends t.region
     pub objects : AreObjects kit.protocol (cycle_of k) t
     pub lens : HasLens t
-    pub plain : (a : ℕ) → IsUnsealed kit (t.state a) (t.seal a)
+    pub resting : (a : ℕ) → IsMoving (t.state a) → ⊥
     pub history : t.history ≡ s.history
     pub own : IsCollectorRecord kit l k t q
     pub each : All (IsParty kit l k t o) others
@@ -129,7 +130,7 @@ module _ {R W E M : Type 0} (kit : Kit R W E M) where
     rows = moved.rows;
     objects = moved.objects;
     lens = moved.lens;
-    plain = moved.plain;
+    resting = moved.resting;
     history = history_turn kit l 0 w.space.history t.history (party.Collector p) (party.Collector q) others (record { past = Before-nil t.history; later = omega arith; shows = inl moved.history }) (inl moved.history) (inl moved.history) w.history;
     each = All-cons (IsParty kit l k t o) (party.Collector q) others moved.own moved.each;
   }
@@ -151,7 +152,6 @@ module _ {R W E M : Type 0} (kit : Kit R W E M) where
         rows = w.rows;
         objects = w.objects;
         lens = w.lens;
-        plain = w.plain;
         beside = beside_same kit l (cycle_of w.collector) (number_of p) w.space w.notices;
         number = begun.number;
         sees = subst (SeesOn w.space.history w.space.history p.seen) (sym begun.seen) (sees_same w.space.history p.seen its.side.past);

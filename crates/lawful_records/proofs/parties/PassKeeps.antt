@@ -1,6 +1,6 @@
 -- A turn of a pass keeps lawful records.
 use Rattle.std.specs.Prelude.{slice_index}
-use Rattle.std.proofs.Common.{ℕ, List, ◌∷◌, sym, subst, ◌∙◌}
+use Rattle.std.proofs.Common.{◌≡◌, ℕ, List, ◌∷◌, refl, sym, subst, ◌∙◌}
 use Rattle.std.proofs.lemmas.List.Elements.{All-head}
 use Rattle.call_steps.specs.Steps.{place_of, applied}
 use Rattle.call_steps.specs.StepLaws.{length-applied}
@@ -9,12 +9,12 @@ use Rattle.heap_history.specs.declared.call.Call.{Call}
 use Rattle.barriers.specs.Kits.{Kit, Stepping}
 use Rattle.lawful_records.specs.Cycling.{announced_by, cycle_of}
 use Rattle.lawful_records.specs.LawfulRecords.{IsPassRecord, IsParty, LawfulRecords}
-use Rattle.lawful_records.specs.PassTurns.{IsAnnounced, PassStands, HasTurn, change_in, pass_after}
-use Rattle.lawful_records.specs.Turns.{front_by, pass_asks, pass_turned, party_asks, turned}
+use Rattle.lawful_records.specs.PassTurns.{IsAnnounced, PassStands, HasTurn, seal_for, change_in, pass_after}
+use Rattle.lawful_records.specs.Turns.{front_by, pass_asks, party_asks, turned}
 use Rattle.lawful_records.specs.declared.records.PassKnown.{PassKnown}
 use Rattle.lawful_records.specs.declared.records.Party.{Party}
 use Rattle.lawful_records.specs.declared.records.Party.TheVariants as party
-use Rattle.lawful_records.proofs.parties.Pasts.{SeesOn, sees_turn, history_is}
+use Rattle.lawful_records.proofs.parties.Pasts.{SeesOn, sees_turn}
 use Rattle.lawful_records.proofs.parties.Assembling.{assemble_pass}
 
 module _ {R W E M : Type 0} (kit : Kit R W E M) (by : Stepping R W E M) (l : Sizes) (ws : List ℕ) (p : PassKnown R W E) (others : List (Party R W E)) (w : LawfulRecords kit l ws (party.Pass p ∷ others)) where
@@ -33,7 +33,7 @@ module _ {R W E M : Type 0} (kit : Kit R W E M) (by : Stepping R W E M) (l : Siz
     rows = w.rows;
     objects = w.objects;
     lens = w.lens;
-    plain = w.plain;
+    late = refl;
     own = own;
   }
 
@@ -45,7 +45,7 @@ module _ {R W E M : Type 0} (kit : Kit R W E M) (by : Stepping R W E M) (l : Siz
     q = pass_after kit by w.space p ws
 
     sees : SeesOn h has.space.history p.seen q.seen
-    sees = subst (λ (g : List Call). SeesOn h g p.seen q.seen) (sym has.turn.history) (sees_turn (change_in kit by p ws) (front_by kit by p.pass.machine (slice_index ws (place_of (pass_asks kit by p.pass.machine)))) h p.seen own.side.past)
+    sees = subst (λ (g : List Call). SeesOn h g p.seen q.seen) (sym has.turn.history) (sees_turn (change_in kit by p ws) (front_by kit by p.pass.machine (slice_index ws (place_of (pass_asks kit by p.pass.machine)))) (seal_for kit by w.space p.pass.machine) h p.seen own.side.past (let turn = has.turn in turn.looks))
 
     kept : LawfulRecords kit l (applied (pass_asks kit by p.pass.machine) ws) (party.Pass q ∷ others)
     kept = let turn = has.turn in
@@ -55,7 +55,6 @@ module _ {R W E M : Type 0} (kit : Kit R W E M) (by : Stepping R W E M) (l : Siz
           rows = turn.rows;
           objects = turn.objects;
           lens = turn.lens;
-          plain = turn.plain;
           beside = turn.beside;
           number = turn.number;
           sees = sees;
@@ -63,7 +62,6 @@ module _ {R W E M : Type 0} (kit : Kit R W E M) (by : Stepping R W E M) (l : Siz
         })
 
     -- after a turn of the pass records are lawful
-    pub pass_keeps : LawfulRecords kit l (applied (party_asks kit by (party.Pass p)) ws) (turned kit by others (party.Pass p) (slice_index ws (place_of (party_asks kit by (party.Pass p)))) ∷ others)
-    pass_keeps =
-        subst (λ (g : List Call). LawfulRecords kit l (applied (pass_asks kit by p.pass.machine) ws) (party.Pass (pass_turned kit by g p (slice_index ws (place_of (pass_asks kit by p.pass.machine)))) ∷ others))
-        (sym (history_is kit l h (party.Pass p ∷ others) w.history)) kept
+    pub pass_keeps : turned kit by others (party.Pass p) (slice_index ws (place_of (pass_asks kit by p.pass.machine))) ≡ party.Pass q
+        → LawfulRecords kit l (applied (party_asks kit by (party.Pass p)) ws) (turned kit by others (party.Pass p) (slice_index ws (place_of (party_asks kit by (party.Pass p)))) ∷ others)
+    pass_keeps is = subst (λ (r : Party R W E). LawfulRecords kit l (applied (pass_asks kit by p.pass.machine) ws) (r ∷ others)) (sym is) kept

@@ -11,12 +11,13 @@ use Rattle.heap_history.specs.NewestFirst.{Before, longer, longest}
 use Rattle.heap_history.specs.NewestFirstLaws.{Before-refl, Before-length, Before-whole, longest_is, IsHistory-cons}
 use Rattle.heap_history.specs.declared.call.Call.{Call}
 use Rattle.barriers.specs.declared.front.Front.{Front}
-use Rattle.barriers.specs.declared.front.Front.TheVariants.{Stays, Now, SealedOrNow}
+use Rattle.barriers.specs.declared.front.Front.TheVariants.{Stays}
+use Rattle.barriers.specs.Knowns.{front}
 use Rattle.barriers.specs.Kits.{Kit}
 use Rattle.lawful_records.specs.Frames.{Grows}
 use Rattle.lawful_records.specs.LawfulRecords.{IsHistoryOf}
 use Rattle.lawful_records.specs.Records.{seen_of, history_of}
-use Rattle.lawful_records.specs.Turns.{with_change, seen_by}
+use Rattle.lawful_records.specs.Turns.{with_change, seen_by, LooksOn}
 use Rattle.lawful_records.specs.declared.records.Party.{Party}
 
 -- where the history goes from h to g, one who had seen `before` has seen `after`
@@ -28,15 +29,13 @@ pub record SeesOn (h g before after : List Call) : Type 0 where
 pub sees_same : (h seen : List Call) → Before seen h → SeesOn h h seen seen
 sees_same h seen past = record { past = past; later = omega arith; shows = inl refl }
 
-sees_all : (h seen : List Call) → Before seen h → SeesOn h h seen h
-sees_all h seen past = record { past = Before-refl h; later = Before-length seen h past; shows = inl refl }
+pub looks_not : (seal : Option (List Call)) (h seen : List Call) → Before seen h → LooksOn Stays seal h seen
+looks_not seal h seen past = record { past = past; later = Before-refl seen }
 
 -- by a step
-pub sees_turn : (change : Option Call) (front : Front) (h seen : List Call) → Before seen h → SeesOn h (with_change change h) seen (seen_by change front h seen)
-sees_turn (Some c) front h seen past = record { past = Before-refl (c ∷ h); later = omega (arith, Before-length seen h past); shows = inr refl }
-sees_turn None Stays h seen past = sees_same h seen past
-sees_turn None Now h seen past = sees_all h seen past
-sees_turn None SealedOrNow h seen past = sees_all h seen past
+pub sees_turn : (change : Option Call) (look : Front) (seal : Option (List Call)) (h seen : List Call) → Before seen h → LooksOn look seal h seen → SeesOn h (with_change change h) seen (seen_by change look seal h seen)
+sees_turn (Some c) look seal h seen past looks = record { past = Before-refl (c ∷ h); later = omega (arith, Before-length seen h past); shows = inr refl }
+sees_turn None look seal h seen past looks = record { past = looks.past; later = Before-length seen (front look seal h seen) looks.later; shows = inl refl }
 
 -- ---- a history that grows
 

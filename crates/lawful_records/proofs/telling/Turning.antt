@@ -4,11 +4,10 @@ use Rattle.std.proofs.Common.{◌≡◌, ℕ, List, [], ◌∷◌, length, Bool,
 use Rattle.call_steps.specs.declared.step.Step.TheVariants.{Ended}
 use Rattle.heap_history.specs.Histories.{pass_of}
 use Rattle.heap_history.specs.NewestFirst.{Before}
-use Rattle.heap_history.specs.NewestFirstLaws.{Before-refl, Before-cons}
+use Rattle.heap_history.specs.NewestFirstLaws.{Before-cons}
 use Rattle.heap_history.specs.declared.call.Call.{Call}
 use Rattle.heap_history.specs.declared.call.Ended.{Ended as EndedCall}
 use Rattle.barriers.specs.declared.front.Front.{Front}
-use Rattle.barriers.specs.declared.front.Front.TheVariants.{Stays, Now, SealedOrNow}
 use Rattle.barriers.specs.declared.new_object.NewMachine.TheVariants as make
 use Rattle.barriers.specs.declared.pass.PassMachine.{PassMachine}
 use Rattle.barriers.specs.declared.pass.PassMachine.TheVariants as machine
@@ -25,18 +24,16 @@ use Rattle.lawful_records.specs.Beginnings.{call_ended, ended_call}
 use Rattle.lawful_records.specs.LawfulRecords.{HasTold, IsMachine}
 use Rattle.lawful_records.specs.Records.{number_of}
 use Rattle.lawful_records.specs.Meetings.{HasSpot}
-use Rattle.lawful_records.specs.Turns.{with_change, change_call, seen_by, change_by, front_by, pass_asks, pass_fed, pass_turned}
+use Rattle.lawful_records.specs.Turns.{with_change, change_call, seen_by, LooksOn, change_by, front_by, pass_asks, pass_fed, pass_turned}
 use Rattle.lawful_records.specs.declared.records.PassKnown.{PassKnown}
 use Rattle.lawful_records.proofs.parties.Pasts.{sees_turn}
 use Rattle.lawful_records.proofs.telling.Telling.{IsLook, AtMost, told_look, told_change}
 use Rattle.lawful_records.proofs.telling.Replies.{EndsSo, EndsWith, look_ended, change_ended}
 
 -- a step of a pass sees no less than it had seen
-pub seen_grows : (change : Option Call) (front : Front) (h seen : List Call) → Before seen h → Before seen (seen_by change front h seen)
-seen_grows (Some c) front h seen past = Before-cons seen c h past
-seen_grows None Stays h seen past = Before-refl seen
-seen_grows None Now h seen past = past
-seen_grows None SealedOrNow h seen past = past
+pub seen_grows : (change : Option Call) (look : Front) (seal : Option (List Call)) (h seen : List Call) → Before seen h → LooksOn look seal h seen → Before seen (seen_by change look seal h seen)
+seen_grows (Some c) look seal h seen past looks = Before-cons seen c h past
+seen_grows None look seal h seen past looks = looks.later
 
 -- What a step with this change has ended, where this was the history and the pass has then seen so much: a call with that change; or with
 -- none a look, if anything.
@@ -67,9 +64,9 @@ ends_by h seen pass k true made all told =
 ends_by h seen pass k false made all told = look_ended (seen None) pass k told.suits made told.answered told.met
 
 -- what the step of a write or an exchange has ended
-pub call_ends : (h before : List Call) (pass : ℕ) (k : Known) (front : Front) → IsCallTold pass (seen_by (change_call k pass) front h before) k
-    → Ends h (change_call k pass) pass (seen_by (change_call k pass) front h before) (ended_call (Some k) pass (length (seen_by (change_call k pass) front h before)))
-call_ends h before pass k front told = ends_by h (λ change. seen_by change front h before) pass k (has_made k) refl (λ c. refl) told
+pub call_ends : (h before : List Call) (pass : ℕ) (k : Known) (look : Front) (seal : Option (List Call)) → IsCallTold pass (seen_by (change_call k pass) look seal h before) k
+    → Ends h (change_call k pass) pass (seen_by (change_call k pass) look seal h before) (ended_call (Some k) pass (length (seen_by (change_call k pass) look seal h before)))
+call_ends h before pass k look seal told = ends_by h (λ change. seen_by change look seal h before) pass k (has_made k) refl (λ c. refl) told
 
 -- and that of a read, which makes no change
 pub read_ends : (h seen : List Call) (pass : ℕ) (k : Known) → has_made k ≡ false → IsCallTold pass seen k → Ends h None pass seen (ended_call (Some k) pass (length seen))
@@ -77,28 +74,28 @@ read_ends h seen pass k unmade told = look_ended seen pass k told.suits unmade t
 
 module _ {R W E M : Type 0} (kit : Kit R W E M) (by : Stepping R W E M) where
   -- the record with a machine, after a step with this change and this front
-  abbrev pub after_step : List Call → PassKnown R W E → PassMachine R W E → Option Call → Front → PassKnown R W E
-  after_step h p m change front = record p {
-    pass = record p.pass { machine = m; seen = length (seen_by change front h p.seen) };
-    seen = seen_by change front h p.seen;
+  abbrev pub after_step : List Call → PassKnown R W E → PassMachine R W E → Option Call → Front → Option (List Call) → PassKnown R W E
+  after_step h p m change look seal = record p {
+    pass = record p.pass { machine = m; seen = length (seen_by change look seal h p.seen) };
+    seen = seen_by change look seal h p.seen;
     mine = with_change change p.mine;
   }
 
-  pub told_step : (h : List Call) (p : PassKnown R W E) (m : PassMachine R W E) (change : Option Call) (front : Front) → number_of (after_step h p m change front) ≡ number_of p → Before p.seen h → call_ended kit p ≡ []
-      → Ends h change (number_of p) (seen_by change front h p.seen) (call_ended kit (after_step h p m change front)) → HasTold kit h p → HasTold kit (with_change change h) (after_step h p m change front)
-  told_step h p m None front number past none ends told =
-      let sees = sees_turn None front h p.seen past in
-      told_look kit h p (after_step h p m None front) (record { number = number; mine = refl; count = refl; later = sees.later; past = sees.past }) refl none ends told
-  told_step h p m (Some c) front number past none ends told =
+  pub told_step : (h : List Call) (p : PassKnown R W E) (m : PassMachine R W E) (change : Option Call) (look : Front) (seal : Option (List Call)) → number_of (after_step h p m change look seal) ≡ number_of p → Before p.seen h → LooksOn look seal h p.seen → call_ended kit p ≡ []
+      → Ends h change (number_of p) (seen_by change look seal h p.seen) (call_ended kit (after_step h p m change look seal)) → HasTold kit h p → HasTold kit (with_change change h) (after_step h p m change look seal)
+  told_step h p m None look seal number past looks none ends told =
+      let sees = sees_turn None look seal h p.seen past looks in
+      told_look kit h p (after_step h p m None look seal) (record { number = number; mine = refl; count = refl; later = sees.later; past = sees.past }) refl none ends told
+  told_step h p m (Some c) look seal number past looks none ends told =
       let with = ends.1 in
-      told_change kit h c p (after_step h p m (Some c) front) with.last (record { number = number; mine = refl; ended = refl; count = refl; seen = refl; own = ends.0 }) none with.is with.call_is with.changed told
+      told_change kit h c p (after_step h p m (Some c) look seal) with.last (record { number = number; mine = refl; ended = refl; count = refl; seen = refl; own = ends.0 }) none with.is with.call_is with.changed told
 
   -- what it has told after its step
-  pub told_turn : (h : List Call) (p : PassKnown R W E) (n : ℕ) → number_of (pass_turned kit by h p n) ≡ number_of p → Before p.seen h → call_ended kit p ≡ []
-      → Ends h (change_by kit by p.pass.machine (number_of p) n) (number_of p) (let q = pass_turned kit by h p n in q.seen) (call_ended kit (pass_turned kit by h p n))
-      → HasTold kit h p → HasTold kit (with_change (change_by kit by p.pass.machine (number_of p) n) h) (pass_turned kit by h p n)
-  told_turn h p n number past none ends told =
-      told_step h p (pass_fed kit by p.pass.machine n) (change_by kit by p.pass.machine (number_of p) n) (front_by kit by p.pass.machine n) number past none ends told
+  pub told_turn : (seal : Option (List Call)) (h : List Call) (p : PassKnown R W E) (n : ℕ) → number_of (pass_turned kit by seal h p n) ≡ number_of p → Before p.seen h → LooksOn (front_by kit by p.pass.machine n) seal h p.seen → call_ended kit p ≡ []
+      → Ends h (change_by kit by p.pass.machine (number_of p) n) (number_of p) (let q = pass_turned kit by seal h p n in q.seen) (call_ended kit (pass_turned kit by seal h p n))
+      → HasTold kit h p → HasTold kit (with_change (change_by kit by p.pass.machine (number_of p) n) h) (pass_turned kit by seal h p n)
+  told_turn seal h p n number past looks none ends told =
+      told_step h p (pass_fed kit by p.pass.machine n) (change_by kit by p.pass.machine (number_of p) n) (front_by kit by p.pass.machine n) seal number past looks none ends told
 
   -- ---- a machine that asks for a step has not ended
 

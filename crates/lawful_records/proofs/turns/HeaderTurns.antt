@@ -31,8 +31,8 @@ use Rattle.barriers.specs.Objects.{IsSide}
 use Rattle.barriers.specs.Kits.{Kit, Stepping, Laws}
 use Rattle.barriers.proofs.words.Made.{absent_before, rows_made, says_made}
 use Rattle.barriers.proofs.words.Sets.{set_cases, set_here, set_else}
-use Rattle.lawful_records.specs.Frames.{SeenBy, Beside, SameRegion}
-use Rattle.lawful_records.specs.LawfulRecords.{IsUnsealed, IsPassRecord}
+use Rattle.lawful_records.specs.Frames.{SeenBy, Beside, SameRegion, Left, Same, Born}
+use Rattle.lawful_records.specs.LawfulRecords.{IsPassRecord}
 use Rattle.lawful_records.specs.Making.{IsPlaced, IsRoom}
 use Rattle.lawful_records.specs.PassTurns.{PassStands, HasTurn, in_machine}
 use Rattle.barriers.specs.declared.pass.PassMachine.TheVariants as machine
@@ -45,6 +45,7 @@ use Rattle.lawful_records.proofs.turns.Births.{birth_fits, answered_made, change
 use Rattle.lawful_records.proofs.turns.Holding.{PassHolds, side_at, record_of}
 use Rattle.lawful_records.proofs.turns.Making.{with_new, new_objects, new_lens, new_seen}
 use Rattle.lawful_records.proofs.turns.Resting.{PassRests, quiet_new, rests_of}
+use Rattle.lawful_records.proofs.parties.Pasts.{looks_not}
 use Rattle.lawful_records.proofs.turns.Stepping.{next, own_there, put_alike, puts}
 
 module _ {R W E M : Type 0} (kit : Kit R W E M) (by : Stepping R W E M) (laws : Laws kit by) (l : Sizes) (a : Announced) (c : Cycle) (s : Space) (n : Notices) (p : PassKnown R W E) (words : List ℕ)
@@ -105,10 +106,14 @@ module _ {R W E M : Type 0} (kit : Kit R W E M) (by : Stepping R W E M) (laws : 
   seen : SeenBy kit.protocol c s t
   seen = new_seen kit.protocol laws.table c s stands.objects stands.lens k len birth pass absent made
 
-  plain_then : (at : ℕ) → IsUnsealed kit (t.state at) (t.seal at)
-  plain_then at = elim (set_cases s.state (s.ends k) at Plain) [
-    | inl here ↦ (rw here.1 tt, ap t.seal here.0 ∙ set_here s.seal (s.ends k) None)
-    | inr there ↦ rw (there.1, set_else s.seal (s.ends k) at None there.0) (stands.plain at)
+  left : (at : ℕ) → Left kit.protocol s t at
+  left at = elim (set_cases s.state (s.ends k) at Plain) [
+    | inl here ↦ Born (ap s.state here.0 ∙ absent) here.1 (ap t.seal here.0 ∙ set_here s.seal (s.ends k) None)
+    | inr there ↦ Same (record {
+      state = there.1;
+      seal = set_else s.seal (s.ends k) at None there.0;
+      head = λ is. (set_else s.birth (s.ends k) at birth there.0, set_else s.len (s.ends k) at len there.0, set_else s.colour (s.ends k) at Even there.0);
+    })
   ]
 
   -- ---- the pass
@@ -200,6 +205,7 @@ module _ {R W E M : Type 0} (kit : Kit R W E M) (by : Stepping R W E M) (laws : 
     phase = refl;
     mark = refl;
     regions = others_regions;
+    left = left;
     history = inr (record { call = call; by = refl; fits = change_fits kit s.history pass p.pass.made len is.few rests.unborn; is = refl });
   }
 
@@ -220,10 +226,10 @@ module _ {R W E M : Type 0} (kit : Kit R W E M) (by : Stepping R W E M) (laws : 
         rows = rows_made l s stands.rows k len birth can Even call;
         objects = new_objects kit.protocol laws.table c s stands.objects stands.lens k len birth pass absent made;
         lens = new_lens kit.protocol laws.table c s stands.objects stands.lens k len birth pass absent made;
-        plain = plain_then;
         beside = beside;
         history = ap (λ (x : Call). x ∷ s.history) (sym change_is);
         number = refl;
+        looks = looks_not None s.history p.seen stands.own.side.past;
         own = own_is;
       };
     }

@@ -32,6 +32,7 @@ use Rattle.lawful_records.specs.declared.records.PassKnown.{PassKnown}
 use Rattle.lawful_records.proofs.turns.Claiming.{looked, tries_on, won, filled}
 use Rattle.lawful_records.proofs.turns.HeaderTurns.{header_inside, header_turn}
 use Rattle.lawful_records.proofs.turns.Resting.{PassRests, IsMakingYet, goes_to, quiet_new, rests_of, room_of, record_rests, rests_region}
+use Rattle.lawful_records.proofs.parties.Pasts.{looks_not}
 use Rattle.lawful_records.proofs.turns.Stepping.{next, own_there, put_alike, exchange_alike, puts, load_turn, region_turn}
 
 module _ {R W E M : Type 0} (kit : Kit R W E M) (by : Stepping R W E M) (laws : Laws kit by) (l : Sizes) (a : Announced) (c : Cycle) (s : Space) (n : Notices) (p : PassKnown R W E) (words : List ℕ) where
@@ -98,7 +99,7 @@ module _ {R W E M : Type 0} (kit : Kit R W E M) (by : Stepping R W E M) (laws : 
     word = slice_index words r.at
 
     look_turn : HasTurn kit by l a c s n (in_machine p (machine.New (make.Look plan r))) words
-    look_turn = load_turn kit by l a c s n (in_machine p (machine.New (make.Look plan r))) words stands on (new_inside (make.Look plan r) stands) refl refl refl
+    look_turn = load_turn kit by l a c s n (in_machine p (machine.New (make.Look plan r))) words stands on (new_inside (make.Look plan r) stands) refl (looks_not None s.history p.seen stands.own.side.past) refl refl
         (goes_on (make.Look plan r) tt stands refl (makes.fed_of (make.Look plan r) word) (looked_yet plan r (word == 0)) (looked l pass p.pass.room p.pass.made plan r stands.layout stands.own.machine s (word == 0)))
 
   -- ---- the exchange of a region's word
@@ -128,7 +129,7 @@ module _ {R W E M : Type 0} (kit : Kit R W E M) (by : Stepping R W E M) (laws : 
 
     -- another word was there
     lost : (seen == 0) ≡ false → HasTurn kit by l a c s n claiming words
-    lost e = load_turn kit by l a c s n claiming words stands on inside refl refl (ap (λ same. either same r.taken seen) e)
+    lost e = load_turn kit by l a c s n claiming words stands on inside refl (looks_not None s.history p.seen stands.own.side.past) refl (ap (λ same. either same r.taken seen) e)
         (subst (λ (free : Bool). IsPassRecord kit l a c s n (goes_to kit p (machine.New (makes.claimed plan (if free then claim.Ended (claim_end.Claimed (claims.region_of r)) else claims.passed_by claim.Claim r))))) (sym e)
         (goes_on (make.Claim plan r) tt stands refl _ (tried_yet plan r (r.ahead == 0)) (tries_on l pass p.pass.room p.pass.made plan r stands.layout is s (r.ahead == 0))))
 
@@ -150,7 +151,7 @@ module _ {R W E M : Type 0} (kit : Kit R W E M) (by : Stepping R W E M) (laws : 
         let zero : reading words (region_at l k) ≡ 0 = ap (reading words) (sym is.round_is.at) ∙ none in
         let free : s.region k ≡ Free = found_free l (reading words) s n stands.rows stands.says k there zero in
         let small : pass < 32 = omega (arith, stands.own.number.1, stands.layout.passes.1) in
-        region_turn kit by l a c s n claiming words stands on inside refl refl k (Taken pass)
+        region_turn kit by l a c s n claiming words stands on inside refl (looks_not None s.history p.seen stands.own.side.past) refl k (Taken pass)
         (says_claimed l (reading words) s n stands.rows stands.says (next kit by l a c s n claiming words stands on inside) k pass there small exchanged zero)
         (λ same. cc same) is.round_is.own
         (subst (λ (free : Bool). IsPassRecord kit l a c t n (goes_to kit p (machine.New (makes.claimed plan (if free then claim.Ended (claim_end.Claimed (claims.region_of r)) else claims.passed_by claim.Claim r))))) (sym e) (placing_own free))
@@ -180,7 +181,7 @@ module _ {R W E M : Type 0} (kit : Kit R W E M) (by : Stepping R W E M) (laws : 
         (puts kit by l a c s n filling words stands on in_table)
 
     fill_turn : HasTurn kit by l a c s n filling words
-    fill_turn = region_turn kit by l a c s n filling words stands on in_table refl refl old Filled
+    fill_turn = region_turn kit by l a c s n filling words stands on in_table refl (looks_not None s.history p.seen stands.own.side.past) refl old Filled
         (says_region l (reading words) s n stands.rows stands.says (next kit by l a c s n filling words stands on in_table) old Filled (own_there l pass old stands.layout stands.own.number stands.own.machine.1.own) tt stored)
         (λ same. cc same) stands.own.machine.1.own filled_own
 

@@ -1,9 +1,10 @@
 -- The turns of a pass: of its polls, of objects that it makes, of its calls, and of its retirement.
-use Rattle.std.proofs.Common.{◌≡◌, ◌≢◌, ℕ, List, ◌∷◌, Some, refl, subst}
+use Rattle.std.proofs.Common.{◌≡◌, ◌≢◌, ℕ, List, ◌∷◌, Option, Some, refl, ap, subst, ◌∙◌}
 use Rattle.std.specs.Prelude.{slice_index}
 use Rattle.call_steps.specs.declared.step.Step.TheVariants.{Ended}
 use Rattle.call_steps.specs.Steps.{IsInside, applied, place_of}
 use Rattle.heap_words.specs.Layouts.{Sizes, words_of}
+use Rattle.heap_history.specs.declared.call.Call.{Call}
 use Rattle.handshakes.specs.Handshakes.{Announced}
 use Rattle.barriers.specs.Spaces.{Space}
 use Rattle.barriers.specs.Says.{Notices}
@@ -11,17 +12,20 @@ use Rattle.barriers.specs.Cycles.{Cycle}
 use Rattle.barriers.specs.CycleLaws.{CycleLaws}
 use Rattle.barriers.specs.Knowns.{Known}
 use Rattle.barriers.specs.Kits.{Kit, Stepping, Laws}
-use Rattle.lawful_records.specs.PassTurns.{IsAnnounced, PassStands, HasTurn, in_machine}
+use Rattle.lawful_records.specs.PassTurns.{IsAnnounced, PassStands, HasTurn, in_machine, pass_after}
 use Rattle.barriers.specs.declared.pass.PassMachine.{PassMachine}
 use Rattle.barriers.specs.declared.pass.PassMachine.TheVariants as machine
 use Rattle.lawful_records.specs.declared.records.PassKnown.{PassKnown}
 use Rattle.lawful_records.specs.declared.records.Party.{Party}
 use Rattle.lawful_records.specs.declared.records.Party.TheVariants as party
 use Rattle.lawful_records.proofs.parties.PassKeeps.{stands_of, pass_keeps}
+use Rattle.lawful_records.proofs.parties.Pasts.{history_is}
+use Rattle.lawful_records.proofs.parties.Seals.{are_sealed}
+use Rattle.lawful_records.proofs.calls.Sights.{turned_alike}
 use Rattle.lawful_records.specs.Cycling.{announced_by, cycle_of}
 use Rattle.lawful_records.specs.LawfulRecords.{LawfulRecords}
 use Rattle.lawful_records.specs.Records.{known_of}
-use Rattle.lawful_records.specs.Turns.{pass_asks, pass_fed, party_asks, turned}
+use Rattle.lawful_records.specs.Turns.{pass_asks, pass_fed, pass_turned, party_asks, seal_in, sealed_of, turned}
 use Rattle.lawful_records.proofs.calls.CallSteps.{CallKept}
 use Rattle.lawful_records.proofs.calls.CallTurns.{read_inside, read_kept, write_inside, write_kept, exchange_inside, exchange_kept, read_turn, write_turn, exchange_turn}
 use Rattle.lawful_records.proofs.turns.PollTurns.{poll_inside, poll_turn}
@@ -86,8 +90,17 @@ module _ {R W E M : Type 0} (kit : Kit R W E M) (by : Stepping R W E M) (laws : 
   pub own_inside : IsInside (words_of l) (pass_asks kit by p.pass.machine)
   own_inside = inside_of kit by laws cycle l (announced_by w.collector) (cycle_of w.collector) w.space w.notices words p stands
 
+  -- the seals that the others know are those of the objects
+  turned_is : pass_asks kit by p.pass.machine ≢ Ended → turned kit by others (party.Pass p) (slice_index words (place_of (pass_asks kit by p.pass.machine))) ≡ party.Pass (pass_after kit by w.space p words)
+  turned_is on =
+      let seal : Option (List Call) = seal_in (sealed_of others) (place_of (pass_asks kit by p.pass.machine)) in
+      ap party.Pass (
+      ap (λ (h : List Call). pass_turned kit by seal h p (slice_index words (place_of (pass_asks kit by p.pass.machine)))) (history_is kit l w.space.history (party.Pass p ∷ others) w.history)
+      ∙ turned_alike kit by laws l (announced_by w.collector) (cycle_of w.collector) w.space w.notices words p stands on seal
+      (λ a f live inside at. ap (seal_in (sealed_of others)) at ∙ (are_sealed kit l w.collector w.space w.notices (party.Pass p ∷ others) (let are = w.parties in are.collector) w.each).seals a f live inside))
+
   pub own_keeps : pass_asks kit by p.pass.machine ≢ Ended → LawfulRecords kit l (applied (party_asks kit by (party.Pass p)) words) (turned kit by others (party.Pass p) (slice_index words (place_of (party_asks kit by (party.Pass p)))) ∷ others)
-  own_keeps on = pass_keeps kit by l words p others w (turn_of kit by laws cycle l (announced_by w.collector) (cycle_of w.collector) w.space w.notices words p stands on)
+  own_keeps on = pass_keeps kit by l words p others w (turn_of kit by laws cycle l (announced_by w.collector) (cycle_of w.collector) w.space w.notices words p stands on) (turned_is on)
 
   pub own_kept : pass_asks kit by p.pass.machine ≢ Ended → (k next : Known) → known_of kit p.pass.machine ≡ Some k → known_of kit (pass_fed kit by p.pass.machine (slice_index words (place_of (pass_asks kit by p.pass.machine)))) ≡ Some next → CallKept k next
   own_kept on = kept_of kit by laws cycle l (announced_by w.collector) (cycle_of w.collector) w.space w.notices words p stands on

@@ -43,6 +43,7 @@ use Rattle.lawful_records.proofs.telling.Telling.{told_quiet}
 use Rattle.lawful_records.proofs.turns.Holding.{PassHolds, side_at, record_of}
 use Rattle.lawful_records.proofs.turns.Polling.{Becomes, poll_next, answered_moved, begin_runs, follow_runs, unmarked_by}
 use Rattle.lawful_records.proofs.turns.Resting.{PassRests, goes_to, quiet_poll, quiet_polled, rests_of, room_of, record_rests}
+use Rattle.lawful_records.proofs.parties.Pasts.{looks_not}
 use Rattle.lawful_records.proofs.turns.Stepping.{next, put_alike, puts, load_turn, notice_turn}
 
 -- ---- following
@@ -228,7 +229,7 @@ module _ {R W E M : Type 0} (kit : Kit R W E M) (by : Stepping R W E M) (cycle :
     phase_turn : HasTurn kit by l a c s n (in_machine p (machine.Poll (poll.Phase q))) words
     phase_turn =
         let went = phase_next (phase_word == q.view.acked) refl in
-        load_turn kit by l a c s n (in_machine p (machine.Poll (poll.Phase q))) words stands on_phase (poll_inside (poll.Phase q) stands) refl went.0 refl went.1
+        load_turn kit by l a c s n (in_machine p (machine.Poll (poll.Phase q))) words stands on_phase (poll_inside (poll.Phase q) stands) refl (looks_not None s.history p.seen stands.own.side.past) went.0 refl went.1
 
   -- a load that is another's than the phase word's
   load_goes : (m : PollMachine) (stands : Stands m) (on : polls.asks_of m ≢ Ended) → IsRunning (polls.fed_of m (found m stands on)) → PollFinds (Becomes s) polled m (found m stands on)
@@ -257,7 +258,7 @@ module _ {R W E M : Type 0} (kit : Kit R W E M) (by : Stepping R W E M) (cycle :
         is.0.ack_at_is is.0.announced_is (puts kit by l a c s n (in_machine p (machine.Poll storing)) words stands on (poll_inside storing stands))
 
     acknowledge_turn : HasTurn kit by l a c s n (in_machine p (machine.Poll storing)) words
-    acknowledge_turn = notice_turn kit by l a c s n (in_machine p (machine.Poll storing)) words stands on (poll_inside storing stands) refl acknowledged.0 (put_ack n own_pass n.phase)
+    acknowledge_turn = notice_turn kit by l a c s n (in_machine p (machine.Poll storing)) words stands on (poll_inside storing stands) refl (looks_not None s.history p.seen stands.own.side.past) acknowledged.0 (put_ack n own_pass n.phase)
         (says_ack l (reading words) (next kit by l a c s n (in_machine p (machine.Poll storing)) words stands on (poll_inside storing stands)) s n stands.rows stands.says own_pass n.phase stands.own.number stored)
         (record { acks = λ other apart. set_else n.ack own_pass other n.phase apart; roots = λ other reg apart. refl; phase = refl; mark = refl })
         acknowledged.1
@@ -267,11 +268,11 @@ module _ {R W E M : Type 0} (kit : Kit R W E M) (by : Stepping R W E M) (cycle :
   poll_turn (poll.Mark q word) stands on =
       let finds : slice_index words q.mark_at ≡ n.mark = ap (reading words) stands.own.machine.0.mark_at_is ∙ stands.says.notices.mark in
       let went = load_goes (poll.Mark q word) stands on tt finds in
-      load_turn kit by l a c s n (in_machine p (machine.Poll (poll.Mark q word))) words stands on (poll_inside (poll.Mark q word) stands) refl went.0 refl went.1
+      load_turn kit by l a c s n (in_machine p (machine.Poll (poll.Mark q word))) words stands on (poll_inside (poll.Mark q word) stands) refl (looks_not None s.history p.seen stands.own.side.past) went.0 refl went.1
   poll_turn (poll.Follow q word register birth at) stands on =
       let followed : Poll = polls.followed q register birth (place_by (header_at (slice_index words at)) at) in
       let went = load_goes (poll.Follow q word register birth at) stands on (follow_runs followed word (register + 1) (polls.behind followed register))
       (link_found l (reading words) c s n birth at stands.rows stands.says stands.objects) in
-      load_turn kit by l a c s n (in_machine p (machine.Poll (poll.Follow q word register birth at))) words stands on (poll_inside (poll.Follow q word register birth at) stands) refl went.0 refl went.1
+      load_turn kit by l a c s n (in_machine p (machine.Poll (poll.Follow q word register birth at))) words stands on (poll_inside (poll.Follow q word register birth at) stands) refl (looks_not None s.history p.seen stands.own.side.past) went.0 refl went.1
   poll_turn (poll.Acknowledge q word mark) stands on = acknowledge_turn q word mark stands on
   poll_turn (poll.Ended e) stands on = absurd (on refl)

@@ -21,7 +21,7 @@ use Rattle.handshakes.specs.PhaseWords.{phase_word_of, phase_word_at, names_phas
 use Rattle.handshakes.specs.Phases.{phase_of}
 use Rattle.handshakes.specs.Polling.{held_in}
 use Rattle.handshakes.specs.Retires as retires
-use Rattle.handshakes.specs.Retires.{retire_of, filled_word, region_word_at, register_before, retired_view}
+use Rattle.handshakes.specs.Retires.{filled_word, region_word_at, register_before, retired_view}
 use Rattle.handshakes.specs.Retiring.{Leaving, retire_step, stored_by}
 use Rattle.handshakes.specs.RetiringLaws.{retire_asks, retire_goes_on, region_word_is}
 use Rattle.barriers.specs.Spaces.{Space}
@@ -43,6 +43,7 @@ use Rattle.lawful_records.specs.declared.records.PassKnown.{PassKnown}
 use Rattle.lawful_records.proofs.telling.Telling.{told_quiet}
 use Rattle.lawful_records.proofs.turns.Holding.{PassHolds, side_at, record_of}
 use Rattle.lawful_records.proofs.turns.Resting.{PassRests, IsLeaving, goes_to, quiet_retire, rests_of, record_rests, rests_region, rests_root}
+use Rattle.lawful_records.proofs.parties.Pasts.{looks_not}
 use Rattle.lawful_records.proofs.turns.Stepping.{next, own_there, put_alike, step_alike, puts, notice_turn, region_turn}
 
 region_filled : word_of_region Filled ≡ filled_word
@@ -167,7 +168,7 @@ module _ {R W E M : Type 0} (kit : Kit R W E M) (by : Stepping R W E M) (l : Siz
         (retire_asks l leaving (retire.Root r behind) stands.own.eight stands.own.machine.0) (puts kit by l a c s n storing words stands on inside)
 
     root_turn : HasTurn kit by l a c s n storing words
-    root_turn = notice_turn kit by l a c s n storing words stands on inside refl after_number o
+    root_turn = notice_turn kit by l a c s n storing words stands on inside refl (looks_not None s.history p.seen stands.own.side.past) after_number o
         (says_root l (reading words) (next kit by l a c s n storing words stands on inside) s n stands.rows stands.says pass reg word stands.own.number (omega arith) (stands.own.registers reg).0 stored)
         (record { acks = λ other apart. refl; roots = λ other i apart. root_else other i apart; phase = refl; mark = refl })
         after_own
@@ -195,7 +196,7 @@ module _ {R W E M : Type 0} (kit : Kit R W E M) (by : Stepping R W E M) (l : Siz
         (puts kit by l a c s n filling words stands on there)
 
     leave_turn : HasTurn kit by l a c s n filling words
-    leave_turn = region_turn kit by l a c s n filling words stands on there refl refl k Filled
+    leave_turn = region_turn kit by l a c s n filling words stands on there refl (looks_not None s.history p.seen stands.own.side.past) refl k Filled
         (says_region l (reading words) s n stands.rows stands.says (next kit by l a c s n filling words stands on there) k Filled (left_there r at stands) tt filled)
         (λ e. cc e) (left r at stands).3 filled_own
 
@@ -251,7 +252,7 @@ module _ {R W E M : Type 0} (kit : Kit R W E M) (by : Stepping R W E M) (l : Siz
         (puts kit by l a c s n ending words stands on here)
 
     end_turn : HasTurn kit by l a c s n ending words
-    end_turn = notice_turn kit by l a c s n ending words stands on here refl refl gone
+    end_turn = notice_turn kit by l a c s n ending words stands on here refl (looks_not None s.history p.seen stands.own.side.past) refl gone
         (says_ack l (reading words) (next kit by l a c s n ending words stands on here) s n stands.rows stands.says pass retired_word stands.own.number said)
         (record { acks = λ other apart. set_else n.ack pass other retired_word apart; roots = λ other reg apart. refl; phase = refl; mark = refl })
         retired_own

@@ -17,13 +17,13 @@ use Rattle.barriers.specs.Kits.{Kit, Stepping}
 use Rattle.barriers.proofs.words.Frames.{says_same, put_same}
 use Rattle.barriers.proofs.words.Rows.{rows_region}
 use Rattle.barriers.proofs.words.Sets.{set_else}
-use Rattle.lawful_records.specs.Frames.{SameRegion}
+use Rattle.lawful_records.specs.Frames.{SameRegion, Same}
 use Rattle.lawful_records.specs.LawfulRecords.{IsPassRecord}
 use Rattle.lawful_records.specs.Records.{number_of}
-use Rattle.lawful_records.specs.Turns.{pass_asks, with_change}
-use Rattle.lawful_records.specs.PassTurns.{PassStands, HasTurn, found_by, change_in, pass_after}
+use Rattle.lawful_records.specs.Turns.{pass_asks, front_by, with_change, LooksOn}
+use Rattle.lawful_records.specs.PassTurns.{PassStands, HasTurn, seal_for, found_by, change_in, pass_after}
 use Rattle.lawful_records.specs.declared.records.PassKnown.{PassKnown}
-use Rattle.lawful_records.proofs.frames.PassStays.{seen_same}
+use Rattle.lawful_records.proofs.frames.PassStays.{head_same, seen_same}
 use Rattle.lawful_records.proofs.frames.Regions.{own_apart}
 use Rattle.lawful_records.proofs.turns.Holding.{objects_region, seen_region}
 
@@ -69,7 +69,7 @@ module _ {R W E M : Type 0} (kit : Kit R W E M) (by : Stepping R W E M) (l : Siz
   pub puts : Put (reading words) next (place_of step) (put_by step (found_by kit by p words))
   puts = applied-puts step words on (subst (λ len. IsInside len step) (sym stands.width) inside)
 
-  module _ (quiet : change_in kit by p words ≡ None) (number : number_of (pass_after kit by s p words) ≡ number_of p) where
+  module _ (quiet : change_in kit by p words ≡ None) (looks : LooksOn (front_by kit by p.pass.machine (found_by kit by p words)) (seal_for kit by s p.pass.machine) s.history p.seen) (number : number_of (pass_after kit by s p words) ≡ number_of p) where
     -- a store in a notice
     pub notice_turn : (o : Notices) → Says l next s o → OthersSame (number_of p) n o → IsPassRecord kit l a c s o (pass_after kit by s p words) → HasTurn kit by l a c s n p words
     notice_turn o says others own = record {
@@ -80,7 +80,6 @@ module _ {R W E M : Type 0} (kit : Kit R W E M) (by : Stepping R W E M) (l : Siz
         rows = stands.rows;
         objects = stands.objects;
         lens = stands.lens;
-        plain = stands.plain;
         beside = record {
           seen = seen_same kit.protocol c s;
           acks = others.acks;
@@ -88,10 +87,12 @@ module _ {R W E M : Type 0} (kit : Kit R W E M) (by : Stepping R W E M) (l : Siz
           phase = others.phase;
           mark = others.mark;
           regions = λ pass region is other own. record { word = refl; ends = refl };
+          left = λ at. Same (head_same s at);
           history = inl refl;
         };
         history = ap (λ change. with_change change s.history) (sym quiet);
         number = number;
+        looks = looks;
         own = own;
       };
     }
@@ -112,7 +113,6 @@ module _ {R W E M : Type 0} (kit : Kit R W E M) (by : Stepping R W E M) (l : Siz
         rows = rows_region l s.state s.len s.ends s.region stands.rows k x (λ free. absurd (used free));
         objects = objects_region kit.protocol c s k x stands.objects;
         lens = stands.lens;
-        plain = stands.plain;
         beside = record {
           seen = seen_region kit.protocol c s k x;
           acks = λ other apart. refl;
@@ -120,10 +120,12 @@ module _ {R W E M : Type 0} (kit : Kit R W E M) (by : Stepping R W E M) (l : Siz
           phase = refl;
           mark = refl;
           regions = others_regions l s (number_of p) k x (λ other is its. own_apart l other (number_of p) k stands.layout is stands.own.number its owned);
+          left = λ at. Same (record { state = refl; seal = refl; head = λ is. (refl, refl, refl) });
           history = inl refl;
         };
         history = ap (λ change. with_change change s.history) (sym quiet);
         number = number;
+        looks = looks;
         own = own;
       };
     }
