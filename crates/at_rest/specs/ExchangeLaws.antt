@@ -153,7 +153,7 @@ nowhere errand at (follow.Ended end) e = cc
 exchange_goes : (v : PassView) (m : ExchangeMachine) (p : Stance) (x : Here) (copy : FieldWord) (n : ℕ) → Stands exchanges ExchangesFor v m p x copy n
     → (exchanges (machine_of_exchange.fed_of m n) ≡ rest_fed (stance_at v.acked) (own_of false v) (exchanges m) (finds p x copy (exchanges m))) × ExchangesFor v (machine_of_exchange.fed_of m n)
 exchange_goes v (exchange.Header errand phase) p x copy n stands =
-    let len = len_found x.state x.len n stands.word in
+    let len = len_found errand.spot.birth x.state x.colour x.len n stands.word in
     subst
     (λ (l : ℕ). (exchanges (machine_of_exchange.by_len errand phase l) ≡ where_field errand.spot (task_of errand) x.len (Loads errand.spot (task_of errand))) × ExchangesFor v (machine_of_exchange.by_len errand phase l))
     (sym len) (exchange_by_len v errand phase x.len (nat_lt errand.spot.field x.len) stands.own.0 stands.own.1)

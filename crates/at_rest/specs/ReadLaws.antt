@@ -5,6 +5,7 @@ use Rattle.call_steps.specs.declared.step.Step.TheVariants.{Ended}
 use Rattle.heap_words.specs.declared.field_word.FieldWord.{FieldWord}
 use Rattle.heap_words.specs.FieldWords.{IsFieldWord, word_of, field_at}
 use Rattle.heap_words.specs.FieldWordLaws.{field_at-word_of}
+use Rattle.object_headers.specs.declared.header.Colour.{Colour}
 use Rattle.object_headers.specs.Headers.{header_at}
 use Rattle.object_headers.specs.HeaderLaws.{header_at-word_of_header}
 use Rattle.handshakes.specs.declared.pass_view.PassView.{PassView}
@@ -31,8 +32,8 @@ use Rattle.at_rest.specs.Knowing.{IsPhase, reads, ReadsFor}
 -- ---- what a step finds
 
 -- the len of a header is the one that its word says
-pub len_found : (x : State) (len n : ℕ) → (word : IsHeaderWord None x len n) → (let h = header_at n in h.len) ≡ len
-len_found x len n word = ap (λ h. h.len) (ap header_at word.word ∙ header_at-word_of_header word.header word.fits) ∙ word.len_is
+pub len_found : (birth : ℕ) (x : State) (colour : Colour) (len n : ℕ) → (word : IsHeaderWord None birth x colour len n) → (let h = header_at n in h.len) ≡ len
+len_found birth x colour len n word = ap (λ h. h.len) (ap header_at word.word ∙ header_at-word_of_header word.header word.fits) ∙ word.len_is
 
 -- a field's word is the one that is packed there
 pub word_found : (w : FieldWord) (n : ℕ) → (n ≡ word_of w) × IsFieldWord w → field_at n ≡ w
@@ -68,7 +69,7 @@ nowhere spot at (follow.Ended end) e = cc
 
 read_goes : (v : PassView) (m : ReadMachine) (p : Stance) (x : Here) (copy : FieldWord) (n : ℕ) → Stands reads ReadsFor v m p x copy n → Goes v m p x copy n
 read_goes v (read.Header spot phase) p x copy n stands =
-    let len = len_found x.state x.len n stands.word in
+    let len = len_found spot.birth x.state x.colour x.len n stands.word in
     subst
     (λ (l : ℕ). (reads (machine_of_read.by_len spot phase l) ≡ where_field spot Reads x.len (Loads spot Reads)) × ReadsFor v (machine_of_read.by_len spot phase l))
     (sym len) (read_by_len v spot phase x.len (nat_lt spot.field x.len) stands.own)

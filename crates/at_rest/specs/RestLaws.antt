@@ -36,7 +36,7 @@ unmarked c e w q = cc (e, q)
 
 -- it loads the header, or is at the plain word
 rest_goes : (c : Cycle) (side : Side) (x : Here) (k : Known) (s : Spot) (found : Finds) → at_field k ≡ Some s → RestOwn c side x k → GoesTo side.own k found (rest_fed side.acked side.own k found)
-rest_goes c side x (Loads_header z t) s (Header_word y len) at own = where_goes side.own (Loads_header z t) (Header_word y len) z len (to_original z t) refl refl (original_stays (Loads_header z t) z t refl refl)
+rest_goes c side x (Loads_header z t) s (Header_word y colour len) at own = where_goes side.own (Loads_header z t) (Header_word y colour len) z len (to_original z t) refl refl (original_stays (Loads_header z t) z t refl refl)
 rest_goes c side x (Loads_header z t) s found at own = stays_goes side.own (Loads_header z t) found z refl refl
 rest_goes c side x (Loads z t) s found at own = plainly_goes side.acked side.own (Loads z t) found tt
 rest_goes c side x (Stores z word) s found at own = plainly_goes side.acked side.own (Stores z word) found tt
@@ -85,7 +85,7 @@ module _ (c : Cycle) (side : Side) (h : List Call) (s : Spot) (x : Here) where
   rest_tells k w own shape agrees v is = absurd own
 
   rest_answered : (k : Known) (found : Finds) → at_field k ≡ Some s → RestOwn c side x k → Tells h side x.seal s k found → Answered side.seen k → Answered (seen_after (puts k found) side s k x found h) (rest_fed side.acked side.own k found)
-  rest_answered (Loads_header z t) (Header_word y len) at own tells was = where_holds (Answered side.seen) z t len (to_original z t) (λ lt. original_answered z t side.seen) (λ le. tt)
+  rest_answered (Loads_header z t) (Header_word y colour len) at own tells was = where_holds (Answered side.seen) z t len (to_original z t) (λ lt. original_answered z t side.seen) (λ le. tt)
   rest_answered (Loads_header z t) found at own tells was = tt
   rest_answered (Loads z t) found at own tells was = plainly_answered side.acked h side s x (Loads z t) found tt (spot_at (Loads z t) s at) tells was
   rest_answered (Stores z word) found at own tells was = plainly_answered side.acked h side s x (Stores z word) found tt (spot_at (Stores z word) s at) tells was
@@ -104,7 +104,7 @@ module _ (c : Cycle) (side : Side) (h : List Call) (s : Spot) (x : Here) where
   rest_wants k found v own tells was put = absurd own
 
   rest_own : (d : Side) (y : Here) (k : Known) (found : Finds) → RestOwn c side x k → RestOwn c d y (rest_fed side.acked side.own k found)
-  rest_own d y (Loads_header z t) (Header_word u len) own = where_holds (RestOwn c d y) z t len (to_original z t) (λ lt. to_own t) (λ le. tt)
+  rest_own d y (Loads_header z t) (Header_word u colour len) own = where_holds (RestOwn c d y) z t len (to_original z t) (λ lt. to_own t) (λ le. tt)
     where
       to_own : (t : Task) → RestOwn c d y (to_original z t)
       to_own Reads = tt

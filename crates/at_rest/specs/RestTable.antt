@@ -19,7 +19,7 @@ abbrev pub rest_begins : Stance → Option FieldWord → Spot → Task → Known
 rest_begins acked own s t = Loads_header s t
 
 abbrev pub rest_fed : Stance → Option FieldWord → Known → Finds → Known
-rest_fed acked own (Loads_header s t) (Header_word x len) = where_field s t len (to_original s t)
+rest_fed acked own (Loads_header s t) (Header_word x colour len) = where_field s t len (to_original s t)
 rest_fed acked own k found = plainly_fed acked k found
 
 abbrev pub rest_move_fed : Carried → Finds → Carried

@@ -41,7 +41,7 @@ write_by_len v spot word len false packed = (refl, packed)
 write_goes : (v : PassView) (m : WriteMachine) (p : Stance) (x : Here) (copy : FieldWord) (n : ℕ) → Stands writes WritesFor v m p x copy n
     → (writes (machine_of_write.fed_of m n) ≡ rest_fed (stance_at v.acked) (own_of false v) (writes m) (finds p x copy (writes m))) × WritesFor v (machine_of_write.fed_of m n)
 write_goes v (write.Header spot word) p x copy n stands =
-    let len = len_found x.state x.len n stands.word in
+    let len = len_found spot.birth x.state x.colour x.len n stands.word in
     subst
     (λ (l : ℕ). (writes (machine_of_write.by_len spot word l) ≡ where_field spot (Writes (field_at word)) x.len (Stores spot (field_at word))) × WritesFor v (machine_of_write.by_len spot word l))
     (sym len) (write_by_len v spot word x.len (nat_lt spot.field x.len) stands.own)

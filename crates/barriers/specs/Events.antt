@@ -134,7 +134,7 @@ put_event (Swaps_wide s t v x n) (Some w) = Widen w
 put_event _ _ = Quiet
 
 abbrev pub keep_event : Finds → Event
-keep_event (Header_word Tagged len) = Keep
+keep_event (Header_word Tagged colour len) = Keep
 keep_event _ = Quiet
 
 abbrev pub event : Known → Finds → Event

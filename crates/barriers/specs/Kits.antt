@@ -5,6 +5,7 @@ use Rattle.call_steps.specs.declared.step.Step.TheVariants.{Ended}
 use Rattle.heap_words.specs.Layouts.{Sizes}
 use Rattle.heap_words.specs.declared.field_word.FieldWord.{FieldWord}
 use Rattle.heap_words.specs.FieldWords.{IsFieldWord, word_of}
+use Rattle.object_headers.specs.declared.header.Colour.{Colour}
 use Rattle.object_headers.specs.declared.header.Header.{Header}
 use Rattle.object_headers.specs.declared.header.State.{State as HeaderState}
 use Rattle.object_headers.specs.declared.header.State.TheVariants as states
@@ -31,7 +32,7 @@ use Rattle.barriers.specs.States.{State, Absent, Plain, Kept, Tagged, Wide, Movi
 use Rattle.barriers.specs.Stances.{Stance, stance_at, mark_in}
 use Rattle.barriers.specs.Spaces.{Here}
 use Rattle.barriers.specs.Values.{value_of}
-use Rattle.barriers.specs.Knowns.{Task, Reads, Writes, Exchanges, Ending, Got, Wrote, Done, Differs, Refused, Known, Follows, Over, Finds, Nothing, Phase_word, Header_word, Field_word, Wide_word, Address, at_field, head_of, step_of, finds, looks, followed}
+use Rattle.barriers.specs.Knowns.{Task, Reads, Writes, Exchanges, Ending, Got, Wrote, Done, Differs, Refused, Known, Follows, Over, Finds, Nothing, Phase_word, Header_word, Field_word, Wide_word, Address, at_field, spot_of, head_of, step_of, finds, looks, followed}
 use Rattle.barriers.specs.Moves.{Carried}
 use Rattle.barriers.specs.Protocols.{Protocol}
 use Rattle.barriers.specs.ProtocolLaws.{ProtocolLaws}
@@ -105,20 +106,22 @@ abbrev pub IsOf : Option Header → Header → Type 0
 IsOf None h = Unit {0}
 IsOf (Some g) h = (h.colour ≡ g.colour) × (h.birth ≡ g.birth) × (h.len ≡ g.len)
 
--- it is the word of a header in this state
-pub record IsHeaderWord (before : Option Header) (x : State) (len n : ℕ) : Type 0 where
+-- it is the word of a header in this state, of the object with this birth number
+pub record IsHeaderWord (before : Option Header) (birth : ℕ) (x : State) (colour : Colour) (len n : ℕ) : Type 0 where
   pub header : Header
   pub fits : IsHeader header
   pub word : n ≡ word_of_header header
   pub state : state_in header ≡ x
+  pub colour_is : (let h = header in h.colour) ≡ colour
   pub len_is : (let h = header in h.len) ≡ len
+  pub birth_is : (let h = header in h.birth) ≡ birth
   pub of : IsOf before header
 
 -- this word stands where a step finds this
 abbrev pub IsWordOf : Known → Finds → ℕ → Type 0
 IsWordOf k Nothing n = Unit {0}
 IsWordOf k (Phase_word p) n = stance_at n ≡ p
-IsWordOf k (Header_word x len) n = IsHeaderWord (head_of k) x len n
+IsWordOf k (Header_word x colour len) n = IsHeaderWord (head_of k) (spot_of k).birth x colour len n
 IsWordOf k (Field_word w) n = (n ≡ word_of w) × IsFieldWord w
 IsWordOf k (Wide_word u) n = (n ≡ word_of_status u) × IsStatus u
 IsWordOf k (Address to) n = (n ≡ to) × (to < 2 ^ 20)

@@ -4,6 +4,7 @@ use Rattle.heap_words.specs.Layouts.{phase_at}
 use Rattle.heap_words.specs.declared.field_word.FieldWord.{FieldWord}
 use Rattle.heap_words.specs.declared.field_word.FieldWord.TheVariants.{Num, Link}
 use Rattle.heap_words.specs.FieldWords.{word_of}
+use Rattle.object_headers.specs.declared.header.Colour.{Colour}
 use Rattle.object_headers.specs.declared.header.Header.{Header}
 use Rattle.object_headers.specs.declared.header.State.TheVariants as states
 use Rattle.object_headers.specs.Headers.{word_of_header}
@@ -224,7 +225,7 @@ step_of (Over s t end) = Ended
 pub data Finds : Type 0 where
   Nothing : Finds
   Phase_word : (p : Stance) → Finds
-  Header_word : (x : State) (len : ℕ) → Finds
+  Header_word : (x : State) (colour : Colour) (len : ℕ) → Finds
   Field_word : (word : FieldWord) → Finds
   Wide_word : (u : Status) → Finds
   Address : (to : ℕ) → Finds
@@ -232,11 +233,11 @@ pub data Finds : Type 0 where
 -- with this stance announced, at a field of which this is so, where the copy has this word
 abbrev pub finds : Stance → Here → FieldWord → Known → Finds
 finds p x copy (Checks s t) = Phase_word p
-finds p x copy (Loads_header s t) = Header_word x.state x.len
-finds p x copy (Keeps s t tagged) = Header_word x.state x.len
+finds p x copy (Loads_header s t) = Header_word x.state x.colour x.len
+finds p x copy (Keeps s t tagged) = Header_word x.state x.colour x.len
 finds p x copy (Loads s t) = Field_word x.word
 finds p x copy (Swaps s t w n) = Field_word x.word
-finds p x copy (Loads_again s t n) = Header_word x.state x.len
+finds p x copy (Loads_again s t n) = Header_word x.state x.colour x.len
 finds p x copy (Loads_wide s t wide) = Wide_word x.status
 finds p x copy (Swaps_wide s t wide u n) = Wide_word x.status
 finds p x copy (Loads_late s t wide) = Field_word x.word

@@ -68,10 +68,10 @@ IsAtField _ = ⊥
 
 -- x is the original's field that the mover is at
 abbrev pub move_finds : Here → Carried → Finds
-move_finds x (Looks j) = Header_word x.state x.len
-move_finds x (Seals j) = Header_word x.state x.len
-move_finds x (Starts j) = Header_word x.state x.len
-move_finds x (Forwards j) = Header_word x.state x.len
+move_finds x (Looks j) = Header_word x.state x.colour x.len
+move_finds x (Seals j) = Header_word x.state x.colour x.len
+move_finds x (Starts j) = Header_word x.state x.colour x.len
+move_finds x (Forwards j) = Header_word x.state x.colour x.len
 move_finds x (Takes_up j f) = Field_word x.word
 move_finds x (Asks j f) = Wide_word x.status
 move_finds x (Widens j f w) = Wide_word x.status

@@ -175,7 +175,7 @@ pub record MoveLaws (P : Protocol) : Type 0 where
   pub still : (c : Cycle) (j : MoveJob) (x : Here) → P.MoveHead c (Lays j) x → IsStill x.state
   pub gives_up : (c : Cycle) (j : MoveJob) (x : Here) → P.MoveHead c (Gives_up j) x → x.state ≡ Kept
   pub given_up : (j : MoveJob) (found : Finds) → job_of (P.move_fed (Gives_up j) found) ≡ None
-  pub forwarded : (c : Cycle) (j : MoveJob) (x : Here) → P.MoveHead c (Forwards j) x → (x.state ≡ Kept) ⊎ (job_of (P.move_fed (Forwards j) (Header_word x.state x.len)) ≡ None)
+  pub forwarded : (c : Cycle) (j : MoveJob) (x : Here) → P.MoveHead c (Forwards j) x → (x.state ≡ Kept) ⊎ (job_of (P.move_fed (Forwards j) (Header_word x.state x.colour x.len)) ≡ None)
 
 pub record ProtocolLaws (P : Protocol) : Type 0 where
   pub calls : CallLaws P

@@ -146,6 +146,7 @@ pub record IsKept (s t : Space) (a : ℕ) : Type 0 where
 -- what its step relies on: the object is there with the field, and so are the copy and the wide object that it is at
 pub record IsAtWord (s : Space) (k : Known) : Type 0 where
   pub live : IsLive (s.state (spot_of k).at)
+  pub birth : s.birth (spot_of k).at ≡ (spot_of k).birth
   pub place : spot_of k ≡ spots.spot_of (spot_of k).birth (spot_of k).at (spot_of k).field
   pub inside : has_field k ≡ true → (spot_of k).field < s.len (spot_of k).at
   pub head : (h : Header) → head_of k ≡ Some h → h ≡ tagged_header s (spot_of k).at

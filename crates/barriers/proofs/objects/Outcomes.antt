@@ -20,15 +20,15 @@ pub data Outcome (k : Known) (found : Finds) : Type 0 where
   Widening : (v : FieldWord) → event k found ≡ Widen v → puts k found ≡ Some v → Outcome k found
 
 keep_outcome : (s : Spot) (t : Task) (h : Header) (found : Finds) → Outcome (Keeps s t h) found
-keep_outcome s t h (Header_word Tagged len) = Keeping refl refl
-keep_outcome s t h (Header_word Absent len) = Still refl refl
-keep_outcome s t h (Header_word Plain len) = Still refl refl
-keep_outcome s t h (Header_word Kept len) = Still refl refl
-keep_outcome s t h (Header_word (Wide w) len) = Still refl refl
-keep_outcome s t h (Header_word (Moving w) len) = Still refl refl
-keep_outcome s t h (Header_word Underway len) = Still refl refl
-keep_outcome s t h (Header_word (Forward w) len) = Still refl refl
-keep_outcome s t h (Header_word Dead len) = Still refl refl
+keep_outcome s t h (Header_word Tagged colour len) = Keeping refl refl
+keep_outcome s t h (Header_word Absent colour len) = Still refl refl
+keep_outcome s t h (Header_word Plain colour len) = Still refl refl
+keep_outcome s t h (Header_word Kept colour len) = Still refl refl
+keep_outcome s t h (Header_word (Wide w) colour len) = Still refl refl
+keep_outcome s t h (Header_word (Moving w) colour len) = Still refl refl
+keep_outcome s t h (Header_word Underway colour len) = Still refl refl
+keep_outcome s t h (Header_word (Forward w) colour len) = Still refl refl
+keep_outcome s t h (Header_word Dead colour len) = Still refl refl
 keep_outcome s t h _ = Still refl refl
 
 swap_outcome : (s : Spot) (t : Task) (x : FieldWord) (n : ℕ) (found : Finds) (o : Option FieldWord) → puts (Swaps s t x n) found ≡ o → Outcome (Swaps s t x n) found

@@ -76,13 +76,13 @@ put_no_keep (Swaps_wide s t v x i) (Some w) e = cc e
 put_no_keep k o e = cc e
 
 -- what the exchange of a header makes of a header
-kept_or : (s : Space) (z : Spot) (h : List Call) (a : ℕ) → (let t = space_by s z h (keep_event (Header_word (s.state z.at) (s.len z.at))) in (header_in t a ≡ header_in s a) ⊎ ((a ≡ z.at) × IsKept s t a))
+kept_or : (s : Space) (z : Spot) (h : List Call) (a : ℕ) → (let t = space_by s z h (keep_event (Header_word (s.state z.at) (s.colour z.at) (s.len z.at))) in (header_in t a ≡ header_in s a) ⊎ ((a ≡ z.at) × IsKept s t a))
 kept_or s z h a = elim (tagged_or (s.state z.at)) [
-  | inl q ↦ subst By (sym (ap (λ x. keep_event (Header_word x (s.len z.at))) q)) (elim (set_cases s.state z.at a Kept) [
+  | inl q ↦ subst By (sym (ap (λ x. keep_event (Header_word x (s.colour z.at) (s.len z.at))) q)) (elim (set_cases s.state z.at a Kept) [
     | inl y ↦ inr (y.0, record { was = ap s.state y.0 ∙ q; is = ap (λ x. header_by x (s.colour a) (s.len a) (s.birth a)) y.1 })
     | inr y ↦ inl (ap (λ x. header_by x (s.colour a) (s.len a) (s.birth a)) y.1)
   ])
-  | inr q ↦ subst By (sym (q.0 (s.len z.at))) (inl refl)
+  | inr q ↦ subst By (sym (q.0 (s.colour z.at) (s.len z.at))) (inl refl)
 ] where
   By : Event → Type 0
   By e = (let t = space_by s z h e in (header_in t a ≡ header_in s a) ⊎ ((a ≡ z.at) × IsKept s t a))

@@ -50,6 +50,7 @@ module _ (P : Protocol) (c : Cycle) (s : Space) (side : Side) (k : Known) (call 
       let at : at_field k ≡ Some (spot_of k) = e ∙ ap Some (sym same) in
       record {
         live = (call.holds (spot_of k) at).1;
+        birth = (call.holds (spot_of k) at).0;
         place = call.place (spot_of k) at;
         inside = call.inside (spot_of k) at;
         head = call.head;

@@ -59,13 +59,15 @@ module _ (l : Sizes) (m : ℕ → ℕ) (s : Space) (n : Notices) (rows : Rows l 
     said Dead y = absurd (cc y)
 
   -- the header of the object of a call, of which this is known before
-  header_word : (a : ℕ) (before : _) → IsLive (s.state a) → IsOf before (header_in s a) → IsHeaderWord before (s.state a) (s.len a) (m a)
-  header_word a before live of = let there = live_there (s.state a) live in record {
+  header_word : (a : ℕ) (before : _) (birth : ℕ) → IsLive (s.state a) → s.birth a ≡ birth → IsOf before (header_in s a) → IsHeaderWord before birth (s.state a) (s.colour a) (s.len a) (m a)
+  header_word a before birth live same of = let there = live_there (s.state a) live in record {
     header = header_in s a;
     fits = says.objects.header_fits a there;
     word = says.objects.header a there;
     state = header_state (s.colour a) (s.len a) (s.birth a) (s.state a) (live_laid (s.state a) live);
+    colour_is = header_colour (s.colour a) (s.len a) (s.birth a) (s.state a) there;
     len_is = header_len (s.colour a) (s.len a) (s.birth a) (s.state a) there;
+    birth_is = header_birth (s.colour a) (s.len a) (s.birth a) (s.state a) there ∙ same;
     of = of;
   }
 
@@ -105,12 +107,12 @@ module _ (l : Sizes) (m : ℕ → ℕ) (s : Space) (n : Notices) (rows : Rows l 
   pub found_word : (p : Stance) (k : Known) → stance_at n.phase ≡ p → ((z : Spot) → at_field k ≡ Some z → IsAtWord s k)
       → IsWordOf k (finds p (here s (spot_of k).at (spot_of k).field) (copy_word s (spot_of k).at (spot_of k).field) k) (m (place_of (step_of k)))
   found_word p (Checks z t) e at = ap stance_at says.notices.phase ∙ e
-  found_word p (Loads_header z t) e at = let o = at z refl in header_word z.at None o.live tt
-  found_word p (Keeps z t tagged) e at = let o = at z refl in header_word z.at (Some tagged) o.live (of_tagged z.at tagged o.live (o.head tagged refl))
+  found_word p (Loads_header z t) e at = let o = at z refl in header_word z.at None z.birth o.live o.birth tt
+  found_word p (Keeps z t tagged) e at = let o = at z refl in header_word z.at (Some tagged) z.birth o.live o.birth (of_tagged z.at tagged o.live (o.head tagged refl))
   found_word p (Loads z t) e at = let o = at z refl in original z o.live o.place (o.inside refl)
   found_word p (Stores z word) e at = tt
   found_word p (Swaps z t x i) e at = let o = at z refl in original z o.live o.place (o.inside refl)
-  found_word p (Loads_again z t i) e at = let o = at z refl in header_word z.at None o.live tt
+  found_word p (Loads_again z t i) e at = let o = at z refl in header_word z.at None z.birth o.live o.birth tt
   found_word p (Loads_wide z t w) e at = let o = at z refl in widened z w (o.wide w refl) (o.inside refl)
   found_word p (Swaps_wide z t w x i) e at = let o = at z refl in widened z w (o.wide w refl) (o.inside refl)
   found_word p (Loads_late z t w) e at = let o = at z refl in original z o.live o.place (o.inside refl)

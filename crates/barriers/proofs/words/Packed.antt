@@ -19,7 +19,7 @@ use Rattle.barriers.specs.Says.{FitsTask, IsChange, IsPacked, FitsFound}
 pub found_fits : (k : Known) (found : Finds) (n : ℕ) → IsWordOf k found n → FitsFound found
 found_fits k Nothing n h = tt
 found_fits k (Phase_word p) n h = tt
-found_fits k (Header_word x len) n h = tt
+found_fits k (Header_word x colour len) n h = tt
 found_fits k (Field_word w) n h = h.1
 found_fits k (Wide_word u) n h = h.1
 found_fits k (Address to) n h = tt

@@ -9,6 +9,7 @@ use Rattle.heap_words.specs.declared.field_word.FieldWord.{FieldWord}
 use Rattle.heap_words.specs.declared.field_word.FieldWord.TheVariants.{Num, Link}
 use Rattle.heap_words.specs.FieldWords.{IsFieldWord, word_of}
 use Rattle.heap_words.specs.FieldWordLaws.{word_of-injective}
+use Rattle.object_headers.specs.declared.header.Colour.{Colour}
 use Rattle.object_headers.specs.declared.header.Header.{Header}
 use Rattle.object_headers.specs.declared.header.State.TheVariants as states
 use Rattle.object_headers.specs.Headers.{IsHeader, word_of_header}
@@ -54,16 +55,16 @@ same_status_tells (InCopy v) (InWide w) = inr (refl, λ e. cc e)
 same_status_tells (InCopy v) (InCopy w) = elim (same_word_tells v w) [ inl q ↦ inl (q.0, ap InCopy q.1) | inr q ↦ inr (q.0, λ e. q.1 (cc e)) ]
 
 -- a state is Tagged, or its header does not say so, and an exchange of the header keeps nothing
-pub tagged_or : (x : State) → (x ≡ Tagged) ⊎ (((len : ℕ) → keep_event (Header_word x len) ≡ Quiet) × ((h : Header) (c : _) (len birth : ℕ) → header_by x c len birth ≡ h → (let g = h in g.state) ≢ states.Tagged))
+pub tagged_or : (x : State) → (x ≡ Tagged) ⊎ (((c : Colour) (len : ℕ) → keep_event (Header_word x c len) ≡ Quiet) × ((h : Header) (c : _) (len birth : ℕ) → header_by x c len birth ≡ h → (let g = h in g.state) ≢ states.Tagged))
 tagged_or Tagged = inl refl
-tagged_or Absent = inr ((λ len. refl), λ h c len birth e q. cc (e, q))
-tagged_or Plain = inr ((λ len. refl), λ h c len birth e q. cc (e, q))
-tagged_or Kept = inr ((λ len. refl), λ h c len birth e q. cc (e, q))
-tagged_or (Wide w) = inr ((λ len. refl), λ h c len birth e q. cc (e, q))
-tagged_or (Moving t) = inr ((λ len. refl), λ h c len birth e q. cc (e, q))
-tagged_or Underway = inr ((λ len. refl), λ h c len birth e q. cc (e, q))
-tagged_or (Forward t) = inr ((λ len. refl), λ h c len birth e q. cc (e, q))
-tagged_or Dead = inr ((λ len. refl), λ h c len birth e q. cc (e, q))
+tagged_or Absent = inr ((λ c len. refl), λ h c len birth e q. cc (e, q))
+tagged_or Plain = inr ((λ c len. refl), λ h c len birth e q. cc (e, q))
+tagged_or Kept = inr ((λ c len. refl), λ h c len birth e q. cc (e, q))
+tagged_or (Wide w) = inr ((λ c len. refl), λ h c len birth e q. cc (e, q))
+tagged_or (Moving t) = inr ((λ c len. refl), λ h c len birth e q. cc (e, q))
+tagged_or Underway = inr ((λ c len. refl), λ h c len birth e q. cc (e, q))
+tagged_or (Forward t) = inr ((λ c len. refl), λ h c len birth e q. cc (e, q))
+tagged_or Dead = inr ((λ c len. refl), λ h c len birth e q. cc (e, q))
 
 tagged_fits : (x : State) (c : _) (len birth : ℕ) → IsLive x → IsHeader (header_by x c len birth) → IsHeader (header_by Tagged c len birth)
 tagged_fits Plain c len birth live f = record { len = f.len; birth = f.birth; target = omega arith; state = (f.state.0, refl) }
@@ -128,7 +129,7 @@ module _ (l : Sizes) (m next : ℕ → ℕ) (s : Space) (n : Notices) (rows : Ro
 
   -- the header
   keep : (z : Spot) (tagged : Header) → IsLive (s.state z.at) → tagged ≡ tagged_header s z.at → Put m next z.at (either (m z.at == word_of_header tagged) (word_of_header (record tagged { state = states.Kept })) (m z.at))
-      → Goal z (keep_event (Header_word (s.state z.at) (s.len z.at)))
+      → Goal z (keep_event (Header_word (s.state z.at) (s.colour z.at) (s.len z.at)))
   keep z tagged live e put =
       let a = z.at in
       let there = live_there (s.state a) live in
@@ -137,11 +138,11 @@ module _ (l : Sizes) (m next : ℕ → ℕ) (s : Space) (n : Notices) (rows : Ro
             let found : m a ≡ word_of_header tagged = says.objects.header a there ∙ (ap (λ x. head_word x (s.colour a) (s.len a) (s.birth a)) q ∙ ap word_of_header (sym e)) in
             let put_kept : Put m next a (head_word Kept (s.colour a) (s.len a) (s.birth a)) = subst (λ g. Put m next a (word_of_header (record g { state = states.Kept }))) e (exchange_won m next a (word_of_header tagged) (word_of_header (record tagged { state = states.Kept })) found put) in
             let fits = kept_fits (s.colour a) (s.len a) (s.birth a) (subst (λ x. IsHeader (header_by x (s.colour a) (s.len a) (s.birth a))) q (says.objects.header_fits a there)) in
-            subst (λ x. Goal z (keep_event (Header_word x (s.len a)))) (sym q) (says_header l m next s n rows says a Kept there (λ w. live_written (s.state a) live) fits put_kept))
+            subst (λ x. Goal z (keep_event (Header_word x (s.colour a) (s.len a)))) (sym q) (says_header l m next s n rows says a Kept there (λ w. live_written (s.state a) live) fits put_kept))
         | inr q ↦ (
             let fits : IsHeader tagged = subst IsHeader (sym e) (tagged_fits (s.state a) (s.colour a) (s.len a) (s.birth a) live (says.objects.header_fits a there)) in
             let ne : m a ≢ word_of_header tagged = λ y. q.1 tagged (s.colour a) (s.len a) (s.birth a) (word_of_header-injective (header_in s a) tagged (says.objects.header_fits a there) fits (sym (says.objects.header a there) ∙ y)) (ap (λ (g : Header). g.state) e) in
-            subst (Goal z) (sym (q.0 (s.len a))) (unchanged (exchange_lost m next a (word_of_header tagged) (word_of_header (record tagged { state = states.Kept })) ne put)))
+            subst (Goal z) (sym (q.0 (s.colour a) (s.len a))) (unchanged (exchange_lost m next a (word_of_header tagged) (word_of_header (record tagged { state = states.Kept })) ne put)))
       ]
 
   -- ---- by machine
