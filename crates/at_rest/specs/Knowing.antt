@@ -1,6 +1,8 @@
 -- What is known of the machines of the copier that moves nothing.
-use Rattle.std.specs.Prelude.{◌≡◌, ℕ, true, false}
+use Rattle.std.specs.Prelude.{◌≡◌, ℕ, true, false, Option, Some, None}
+use Rattle.heap_words.specs.declared.field_word.FieldWord.{FieldWord}
 use Rattle.heap_words.specs.FieldWords.{IsFieldWord, word_of, field_at}
+use Rattle.object_headers.specs.declared.change.Kind.TheVariants as kinds
 use Rattle.handshakes.specs.declared.pass_view.PassView.{PassView}
 use Rattle.handshakes.specs.declared.phase_word.Phase.{Phase}
 use Rattle.handshakes.specs.PhaseWords.{phase_word_at}
@@ -80,6 +82,11 @@ abbrev pub moves : StayMachine → Carried
 moves (stay.Header job) = Looks job
 moves (stay.Ended header) = Idles
 
+-- the header that it found
+abbrev pub kept_by : StayMachine → Option ℕ
+kept_by (stay.Header job) = None
+kept_by (stay.Ended header) = Some header
+
 -- ---- what they keep of their pass, and of words
 
 -- the phase is the pass's
@@ -113,10 +120,14 @@ ExchangesFor v (exchange.Field errand phase plainly) = IsPhase v phase × IsPack
 ExchangesFor v (exchange.Follow errand its) = IsPackedWord errand.word
 ExchangesFor v (exchange.Ended errand end) = IsPackedWord errand.word
 
+abbrev pub MovesFor : Option FieldWord → StayMachine → Type 0
+MovesFor mark m = Unit {0}
+
 -- ---- all of it
 
 abbrev pub kit_at_rest : Kit ReadMachine WriteMachine ExchangeMachine StayMachine
 kit_at_rest = record {
+  kind = kinds.AtRest;
   protocol = at_rest;
   starts_read = λ l v birth at field. read.Header (spot_of birth at field) (let w = phase_word_at v.acked in w.phase);
   starts_write = λ l v birth at field word. write.Header (spot_of birth at field) word;
@@ -131,7 +142,9 @@ kit_at_rest = record {
   writes = writes;
   exchanges = exchanges;
   moves = moves;
+  keeps = kept_by;
   ReadsFor = ReadsFor;
   WritesFor = WritesFor;
   ExchangesFor = ExchangesFor;
+  MovesFor = MovesFor;
 }

@@ -4,5 +4,6 @@ pub mod ReadLaws
 pub mod RestLaws
 pub mod RestTable
 pub mod Rests
+pub mod StayLaws
 pub mod Stays
 pub mod WriteLaws

@@ -1,9 +1,10 @@
 -- The laws of the copier that moves nothing.
 use Rattle.std.specs.Prelude.{refl}
-use Rattle.std.proofs.Common.{ap, sym, subst, lit≤}
+use Rattle.std.proofs.Common.{ap, sym, subst, arith, lit≤}
 use Rattle.heap_words.specs.declared.field_word.FieldWord.{FieldWord}
 use Rattle.heap_words.specs.FieldWords.{IsFieldWord, word_of}
 use Rattle.heap_words.specs.FieldWordLaws.{field_at-word_of}
+use Rattle.object_headers.specs.declared.change.Kind.TheVariants as kinds
 use Rattle.barriers.specs.declared.read.ReadMachine.{ReadMachine}
 use Rattle.barriers.specs.declared.write.WriteMachine.{WriteMachine}
 use Rattle.barriers.specs.declared.exchange.ExchangeMachine.{ExchangeMachine}
@@ -13,16 +14,20 @@ use Rattle.barriers.specs.Knowns.{Writes, Exchanges, Loads_header}
 use Rattle.barriers.specs.Reads as machine_of_read
 use Rattle.barriers.specs.Writes as machine_of_write
 use Rattle.barriers.specs.Exchanges as machine_of_exchange
-use Rattle.barriers.specs.CycleLaws.{CycleLaws}
+use Rattle.barriers.specs.Spaces.{Here}
+use Rattle.barriers.specs.Cycles.{Cycle}
+use Rattle.barriers.specs.Moves.{Carried}
+use Rattle.barriers.specs.CycleLaws.{CycleLaws, IsAtWide, MovingLaws}
 use Rattle.barriers.specs.Kits.{Stepping, Laws}
 use Rattle.at_rest.specs.declared.stay.StayMachine.{StayMachine}
 use Rattle.at_rest.specs.Stays as stays
 use Rattle.at_rest.specs.RestLaws.{rest_laws}
-use Rattle.at_rest.specs.RestTable.{at_rest}
+use Rattle.at_rest.specs.RestTable.{at_rest, RestHead}
 use Rattle.at_rest.specs.Knowing.{IsPackedWord, kit_at_rest}
 use Rattle.at_rest.specs.ReadLaws.{reading}
 use Rattle.at_rest.specs.WriteLaws.{writing}
 use Rattle.at_rest.specs.ExchangeLaws.{exchanging}
+use Rattle.at_rest.specs.StayLaws.{staying}
 
 -- what its machines do
 abbrev pub steps_at_rest : Stepping ReadMachine WriteMachine ExchangeMachine StayMachine
@@ -42,6 +47,22 @@ steps_at_rest = record {
   write_left = machine_of_write.left_of;
   exchange_left = machine_of_exchange.left_of;
 }
+
+-- what a cycle asks of its moves, which only look
+rest_movable : MovingLaws kinds.AtRest at_rest
+rest_movable = record {
+  begins = λ j. refl;
+  ready = λ c j x ready. tt;
+  tags = λ tags. absurd cc;
+  draws = λ draws m. absurd cc;
+  clears = λ clears. absurd cc;
+  wides = λ c m x at head. absurd (no_wide c m x at head);
+  starts = λ c j x head. absurd head;
+  marks = λ c j f w x head. absurd head;
+  forwards = λ c j x to wide target head. absurd head;
+} where
+  no_wide : (c : Cycle) (m : Carried) (x : Here) → IsAtWide m → RestHead c m x → ⊥
+  no_wide c m x at head = grind (arith, at, head)
 
 -- what a cycle asks
 pub rest_cycle : CycleLaws at_rest
@@ -65,6 +86,7 @@ pub laws_at_rest : Laws kit_at_rest steps_at_rest
 laws_at_rest = record {
   table = rest_laws;
   cycle = rest_cycle;
+  movable = rest_movable;
   reading = reading;
   writing = writing;
   exchanging = exchanging;
@@ -79,4 +101,6 @@ laws_at_rest = record {
     own = (refl, packed_word word fits);
     few = lit≤ tt;
   };
+  moving = staying;
+  begins_move = λ l j mark job. record { known = refl; own = tt; none = refl };
 }

@@ -14,6 +14,7 @@ use space_reclaim::MoveJob;
 pub struct AtRest;
 
 impl Copier for AtRest {
+    ghost use Rattle.std.specs.Prelude.{refl};
     ghost use Rattle.at_rest.specs.Knowing.{kit_at_rest};
     ghost use Rattle.at_rest.specs.Rests.{laws_at_rest};
     ghost use Rattle.object_headers.specs.declared.change.Kind.TheVariants as Kind;
@@ -78,6 +79,8 @@ impl Copier for AtRest {
     fn move_end(machine: &StayMachine) -> Option<MoveEnd> {
         machine.end()
     }
+
+    ghost kind = { refl };
 
     ghost laws = { laws_at_rest };
 }

@@ -1,12 +1,19 @@
 -- What a cycle asks of a copier, beside the laws of its table.
-use Rattle.std.specs.Prelude.{◌≡◌, ℕ, Bool, true, false, None}
+use Rattle.std.specs.Prelude.{◌≡◌, ℕ, ◌⊎◌, Bool, true, false, None}
 use Rattle.heap_words.specs.declared.field_word.FieldWord.{FieldWord}
+use Rattle.object_headers.specs.declared.change.Kind.{Kind}
+use Rattle.object_headers.specs.declared.change.Kind.TheVariants as kinds
+use Rattle.object_headers.specs.Changes.{is_stopless, is_clover, does_tag, does_move}
 use Rattle.wide_objects.specs.Statuses.{InOriginal}
+use Rattle.space_reclaim.specs.declared.move_job.MoveJob.{MoveJob}
+use Rattle.barriers.specs.States.{State, Plain, Kept, Tagged}
 use Rattle.barriers.specs.Stances.{Stance}
 use Rattle.barriers.specs.Spaces.{Here}
-use Rattle.barriers.specs.Cycles.{Told, Cycle, Side, Announce, Reach, Clears, Lates, Handshaken}
-use Rattle.barriers.specs.Events.{Unkeep, IsStill}
-use Rattle.barriers.specs.Protocols.{Protocol}
+use Rattle.barriers.specs.Cycles.{Told, Everybody, Cycle, Side, Announce, Reach, Draw, Clears, Lates, IsSet, Handshaken}
+use Rattle.barriers.specs.Events.{Keep, Tag, Unkeep, IsStill}
+use Rattle.barriers.specs.Moves.{Carried, Points, Seals, Starts, Forwards, Asks, Widens, Finishes, Marks}
+use Rattle.barriers.specs.MoveSteps.{first_of, forwards_from}
+use Rattle.barriers.specs.Protocols.{Protocol, TargetIs}
 
 pub record CycleLaws (P : Protocol) : Type 0 where
   -- what it owes to a pass is what the handshake says
@@ -22,3 +29,43 @@ pub record CycleLaws (P : Protocol) : Type 0 where
   pub unkeep : P.Makes Unkeep
   -- the wide words of what is not moved are in the original
   pub narrow : (c : Cycle) (b f : ℕ) (x : Here) (w : FieldWord) → P.Shape c b f x w → IsStill x.state → x.status ≡ InOriginal
+
+-- ---- moves
+
+abbrev pub IsTaggedOrKept : State → Type 0
+IsTaggedOrKept Tagged = Unit {0}
+IsTaggedOrKept Kept = Unit {0}
+IsTaggedOrKept _ = ⊥
+
+-- an object is ready to be moved: all have acknowledged the last Copy word, and it was tagged, or a search for the mark ended clear
+abbrev pub IsReady : Kind → Cycle → Here → Type 0
+IsReady kinds.Stopless c x = IsTaggedOrKept x.state × (c.told ≡ Everybody)
+IsReady kinds.Chicken c x = IsTaggedOrKept x.state × (c.told ≡ Everybody)
+IsReady kinds.Clover c x = (x.state ≡ Plain) × (c.told ≡ Everybody) × (c.clear ≡ true) × IsSet c.mark
+IsReady kinds.AtRest c x = Unit {0}
+
+-- the mover is at a wide object, or about to seal the original for it
+abbrev pub IsAtWide : Carried → Type 0
+IsAtWide (Points j) = Unit {0}
+IsAtWide (Seals j) = Unit {0}
+IsAtWide (Asks j f) = Unit {0}
+IsAtWide (Widens j f w) = Unit {0}
+IsAtWide (Finishes j f w) = Unit {0}
+IsAtWide _ = ⊥
+
+-- What a cycle asks of the moves of a copier of this kind.
+pub record MovingLaws (kind : Kind) (P : Protocol) : Type 0 where
+  -- how a move begins
+  pub begins : (j : MoveJob) → P.move_begins j ≡ first_of kind j
+  pub ready : (c : Cycle) (j : MoveJob) (x : Here) → IsReady kind c x → P.MoveHead c (P.move_begins j) x
+  -- what the collector does before: tags, or the draw of a mark and a search that ends clear
+  pub tags : does_tag kind ≡ true → P.Makes Tag
+  -- and only where objects are tagged is a tag Kept
+  pub keeps : P.Makes Keep → does_tag kind ≡ true
+  pub draws : is_clover kind ≡ true → (m : FieldWord) → P.Phases (Draw m)
+  pub clears : is_clover kind ≡ true → P.Phases (Clears true)
+  -- who has which steps; and in which state the header is that the mover exchanges, where its targets are the job's
+  pub wides : (c : Cycle) (m : Carried) (x : Here) → IsAtWide m → P.MoveHead c m x → is_stopless kind ≡ true
+  pub starts : (c : Cycle) (j : MoveJob) (x : Here) → P.MoveHead c (Starts j) x → (is_clover kind ≡ true) × (x.state ≡ Plain)
+  pub marks : (c : Cycle) (j : MoveJob) (f : ℕ) (w : FieldWord) (x : Here) → P.MoveHead c (Marks j f w) x → IsSet c.mark
+  pub forwards : (c : Cycle) (j : MoveJob) (x : Here) → x.to ≡ j.to → x.wide ≡ j.wide → TargetIs x x.state → P.MoveHead c (Forwards j) x → (does_move kind ≡ true) × ((x.state ≡ forwards_from kind j) ⊎ (x.state ≡ Kept))

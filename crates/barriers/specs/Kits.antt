@@ -9,7 +9,8 @@ use Rattle.object_headers.specs.declared.header.Colour.{Colour}
 use Rattle.object_headers.specs.declared.header.Header.{Header}
 use Rattle.object_headers.specs.declared.header.State.{State as HeaderState}
 use Rattle.object_headers.specs.declared.header.State.TheVariants as states
-use Rattle.object_headers.specs.Headers.{IsHeader, word_of_header}
+use Rattle.object_headers.specs.declared.change.Kind.{Kind}
+use Rattle.object_headers.specs.Headers.{IsHeader, word_of_header, header_at}
 use Rattle.wide_objects.specs.Statuses.{IsStatus, word_of_status}
 use Rattle.space_reclaim.specs.declared.move_job.MoveJob.{MoveJob}
 use Rattle.handshakes.specs.declared.pass_view.PassView.{PassView}
@@ -33,14 +34,16 @@ use Rattle.barriers.specs.Stances.{Stance, stance_at, mark_in}
 use Rattle.barriers.specs.Spaces.{Here}
 use Rattle.barriers.specs.Values.{value_of}
 use Rattle.barriers.specs.Knowns.{Task, Reads, Writes, Exchanges, Ending, Got, Wrote, Done, Differs, Refused, Known, Follows, Over, Finds, Nothing, Phase_word, Header_word, Field_word, Wide_word, Address, at_field, spot_of, head_of, step_of, finds, looks, followed}
-use Rattle.barriers.specs.Moves.{Carried}
+use Rattle.barriers.specs.Moves.{Carried, job_of, move_finds}
+use Rattle.barriers.specs.MoveSteps.{IsJob, FitsCarried, move_step, kept_after, move_said}
 use Rattle.barriers.specs.Protocols.{Protocol}
 use Rattle.barriers.specs.ProtocolLaws.{ProtocolLaws}
-use Rattle.barriers.specs.CycleLaws.{CycleLaws}
+use Rattle.barriers.specs.CycleLaws.{CycleLaws, MovingLaws}
 use Rattle.barriers.specs.Says.{IsPacked}
 
 -- Reads, writes, exchanges and moves are done by these machines.
 pub record Kit (R W E M : Type 0) : Type 1 where
+  pub kind : Kind
   pub protocol : Protocol
   -- how they begin, and what they end with
   pub starts_read : Sizes → PassView → ℕ → ℕ → ℕ → R
@@ -58,10 +61,14 @@ pub record Kit (R W E M : Type 0) : Type 1 where
   pub writes : W → Known
   pub exchanges : E → Known
   pub moves : M → Carried
+  -- the header's word that a mover has found, with which it leaves the object where it is
+  pub keeps : M → Option ℕ
   -- what they keep of their pass is the pass's, and their words are packed
   pub ReadsFor : PassView → R → Type 0
   pub WritesFor : PassView → W → Type 0
   pub ExchangesFor : PassView → E → Type 0
+  -- and what a mover keeps of its job and of the cycle's mark
+  pub MovesFor : Option FieldWord → M → Type 0
 
 -- what its machines do, a step at a time
 pub record Stepping (R W E M : Type 0) : Type 0 where
@@ -117,14 +124,20 @@ pub record IsHeaderWord (before : Option Header) (birth : ℕ) (x : State) (colo
   pub birth_is : (let h = header in h.birth) ≡ birth
   pub of : IsOf before header
 
--- this word stands where a step finds this
+-- this word stands where a step finds this, at the object with this birth number, of which this header was found before
+abbrev pub IsFound : Option Header → ℕ → Finds → ℕ → Type 0
+IsFound before birth Nothing n = Unit {0}
+IsFound before birth (Phase_word p) n = stance_at n ≡ p
+IsFound before birth (Header_word x colour len) n = IsHeaderWord before birth x colour len n
+IsFound before birth (Field_word w) n = (n ≡ word_of w) × IsFieldWord w
+IsFound before birth (Wide_word u) n = (n ≡ word_of_status u) × IsStatus u
+IsFound before birth (Address to) n = (n ≡ to) × (to < 2 ^ 20)
+
 abbrev pub IsWordOf : Known → Finds → ℕ → Type 0
-IsWordOf k Nothing n = Unit {0}
-IsWordOf k (Phase_word p) n = stance_at n ≡ p
-IsWordOf k (Header_word x colour len) n = IsHeaderWord (head_of k) (spot_of k).birth x colour len n
-IsWordOf k (Field_word w) n = (n ≡ word_of w) × IsFieldWord w
-IsWordOf k (Wide_word u) n = (n ≡ word_of_status u) × IsStatus u
-IsWordOf k (Address to) n = (n ≡ to) × (to < 2 ^ 20)
+IsWordOf k = IsFound (head_of k) (spot_of k).birth
+
+abbrev pub IsMoveWord : MoveJob → Finds → ℕ → Type 0
+IsMoveWord j = IsFound (Some (header_at j.header)) j.birth
 
 -- ---- ends
 
@@ -179,6 +192,16 @@ pub record Runs {K E : Type 0} (P : Protocol) (own : PassView → Option FieldWo
   -- the words that it holds are packed field words
   pub packed : (v : PassView) (m : K) → For v m → IsPacked (knows m)
 
+-- The machine of a move, in a cycle with a mark: it asks for the step that is known of it, and goes on as the table says; and it ends with
+-- the header's word that it has found, or has moved the object.
+pub record Moves {M : Type 0} (P : Protocol) (kind : Kind) (asks : M → Step) (fed : M → ℕ → M) (knows : M → Carried) (For : Option FieldWord → M → Type 0) (keeps : M → Option ℕ) (ended : M → Option MoveEnd) : Type 0 where
+  pub asks_alike : (mark : Option FieldWord) (m : M) → For mark m → asks m ≡ move_step kind mark (knows m)
+  pub goes : (mark : Option FieldWord) (m : M) (j : MoveJob) (x : Here) (n : ℕ) → For mark m → job_of (knows m) ≡ Some j → IsMoveWord j (move_finds x (knows m)) n
+      → (knows (fed m n) ≡ P.move_fed (knows m) (move_finds x (knows m))) × For mark (fed m n) × (keeps (fed m n) ≡ kept_after (knows m) (P.move_fed (knows m) (move_finds x (knows m))) n (keeps m))
+  pub tells : (m : M) → ended m ≡ move_said (knows m) (keeps m)
+  -- the words that it holds are packed field words
+  pub packed : (mark : Option FieldWord) (m : M) → For mark m → FitsCarried (knows m)
+
 module _ {R W E M : Type 0} (kit : Kit R W E M) (by : Stepping R W E M) where
   abbrev P : Protocol
   P = kit.protocol
@@ -192,12 +215,21 @@ module _ {R W E M : Type 0} (kit : Kit R W E M) (by : Stepping R W E M) where
     pub own : For v m
     pub few : left m ≤ 17
 
+  -- what a move is when it begins, in a cycle with this mark
+  pub record BeginsMove (mark : Option FieldWord) (j : MoveJob) (m : M) : Type 0 where
+    pub known : kit.moves m ≡ P.move_begins j
+    pub own : kit.MovesFor mark m
+    pub none : kit.keeps m ≡ None
+
   pub record Laws : Type 0 where
     pub table : ProtocolLaws P
     pub cycle : CycleLaws P
+    pub movable : MovingLaws kit.kind P
     pub reading : Runs P minded by.read_asks by.read_fed by.read_front kit.reads kit.ReadsFor kit.read_ended read_said
     pub writing : Runs P minded by.write_asks by.write_fed by.write_front kit.writes kit.WritesFor kit.write_ended write_said
     pub exchanging : Runs P minded by.exchange_asks by.exchange_fed by.exchange_front kit.exchanges kit.ExchangesFor kit.exchange_ended exchange_said
     pub begins_read : (l : Sizes) (v : PassView) (birth at field : ℕ) → Begins kit.reads kit.ReadsFor by.read_left v (spots.spot_of birth at field) Reads (kit.starts_read l v birth at field)
     pub begins_write : (l : Sizes) (v : PassView) (birth at field : ℕ) (word : FieldWord) → IsFieldWord word → Begins kit.writes kit.WritesFor by.write_left v (spots.spot_of birth at field) (Writes word) (kit.starts_write l v birth at field (word_of word))
     pub begins_exchange : (l : Sizes) (v : PassView) (birth at field : ℕ) (expected word : FieldWord) → IsFieldWord word → Begins kit.exchanges kit.ExchangesFor by.exchange_left v (spots.spot_of birth at field) (Exchanges (value_of expected) word) (kit.starts_exchange l v birth at field expected (word_of word))
+    pub moving : Moves P kit.kind by.move_asks by.move_fed kit.moves kit.MovesFor kit.keeps kit.move_ended
+    pub begins_move : (l : Sizes) (j : MoveJob) (mark : ℕ) → IsJob j → BeginsMove (mark_in mark) j (kit.starts_move l j mark)

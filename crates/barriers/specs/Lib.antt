@@ -10,6 +10,7 @@ pub mod FollowCauses
 pub mod Kits
 pub mod KnownLaws
 pub mod Knowns
+pub mod MoveSteps
 pub mod Moves
 pub mod NewObjectCauses
 pub mod NewObjects

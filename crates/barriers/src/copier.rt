@@ -97,6 +97,9 @@ pub trait Copier {
     fn move_end(machine: &Self::Move) -> Option<MoveEnd>
         ensures { result ≡ kit.move_ended machine.now };
 
+    /// Its kind is that of the machines.
+    ghost kind: { KIND ≡ kit.kind };
+
     /// What holds of all that.
     ghost laws: { Laws kit (record {
       read_asks = Self.Read.asks;
