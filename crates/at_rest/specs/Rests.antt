@@ -54,6 +54,7 @@ rest_movable = record {
   begins = λ j. refl;
   ready = λ c j x ready. tt;
   tags = λ tags. absurd cc;
+  keeps = λ makes. absurd makes;
   draws = λ draws m. absurd cc;
   clears = λ clears. absurd cc;
   wides = λ c m x at head. absurd (no_wide c m x at head);

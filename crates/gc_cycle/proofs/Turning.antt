@@ -1,5 +1,5 @@
 -- What a turn keeps and leaves.
-use Rattle.std.proofs.Common.{◌≡◌, ◌≢◌, ℕ, ◌≤◌}
+use Rattle.std.proofs.Common.{◌≡◌, ◌≢◌, ℕ, ◌≤◌, sym, subst}
 use Rattle.heap_words.specs.Layouts.{IsPass}
 use Rattle.object_headers.specs.declared.change.Kind.{Kind}
 use Rattle.call_steps.specs.declared.step.Step.TheVariants.{Ended}
@@ -28,8 +28,8 @@ module _ {R W E M : Type 0} (kit : Kit R W E M) (by : Stepping R W E M) (laws : 
   pub turn_moves : (w : State R W E) → Lawful kit w → (party : ℕ) → IsParty w.layout party → Moves kit by w party (turn_of kit by w party)
   turn_moves w lw party is = turns.turn_moves kit by laws w lw party is
 
-  pub turn_headers : (w : State R W E) → Lawful kit w → (party : ℕ) → IsParty w.layout party → (kind : Kind) → HeadersChange kind w.layout w.words (let t = turn_of kit by w party in t.words)
-  turn_headers w lw party is kind = turn_heads kit by laws w lw kind party is
+  pub turn_headers : (w : State R W E) → Lawful kit w → (party : ℕ) → IsParty w.layout party → (kind : Kind) → kind ≡ kit.kind → HeadersChange kind w.layout w.words (let t = turn_of kit by w party in t.words)
+  turn_headers w lw party is kind same = subst (λ (k : Kind). HeadersChange k w.layout w.words (let t = turn_of kit by w party in t.words)) (sym same) (turn_heads kit by laws w lw party is)
 
   -- a thread that takes no step has retired
   pub retired_at_end : (w : State R W E) → Lawful kit w → (party : ℕ) → IsPass w.layout party → asks_at kit by w party ≡ Ended → (let p = pass_at w party in p.machine) ≡ Retired

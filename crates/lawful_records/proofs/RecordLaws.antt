@@ -1,16 +1,13 @@
 -- The law of words and records, in whatever order the parties stand, over any copier.
 use Rattle.std.specs.Prelude.{◌≢◌, ◌^◌, slice_index, sum_by, IsPermutation}
 use Rattle.std.specs.List.{All}
-use Rattle.std.proofs.Common.{◌≡◌, true, ℕ, ◌+◌, ◌<◌, ◌≤◌, List, [], ◌∷◌, length, Some, arith}
+use Rattle.std.proofs.Common.{◌≡◌, ℕ, ◌+◌, ◌<◌, ◌≤◌, List, [], ◌∷◌, length, Some, arith}
 use Rattle.std.proofs.lemmas.List.Elements.{All-head, All-tail}
 use Rattle.std.proofs.lemmas.List.Sums.{sum_by-cons}
 use Rattle.call_steps.specs.declared.step.Step.TheVariants.{Ended}
 use Rattle.call_steps.specs.Steps.{place_of, applied, IsInside}
 use Rattle.call_steps.specs.Turns.{still}
 use Rattle.heap_words.specs.Layouts.{Sizes, IsLayout, words_of}
-use Rattle.object_headers.specs.declared.change.Kind.{Kind}
-use Rattle.object_headers.specs.Changes.{does_tag}
-use Rattle.barriers.specs.Events.{Keep}
 use Rattle.barriers.specs.Knowns.{Known}
 use Rattle.barriers.specs.Kits.{Kit, Stepping, Laws}
 use Rattle.barriers.specs.Spaces.{Space}
@@ -87,11 +84,11 @@ module _ {R W E M : Type 0} (kit : Kit R W E M) (by : Stepping R W E M) (laws : 
   lawful_opens l cycles fits few = opens kit by laws l fits cycles few
 
   -- by a step every header changes as the table of allowed changes says
-  pub lawful_heads : (l : Sizes) (words : List ℕ) (others : List (Party R W E)) (r : Party R W E) → LawfulRecords kit l words (r ∷ others) → party_asks kit by r ≢ Ended → (kind : Kind) → (kit.protocol.Makes Keep → does_tag kind ≡ true) → HeadersChange kind l words (applied (party_asks kit by r) words)
-  lawful_heads l words others (party.Pass p) w on kind tags =
-      pass_heads kit by l words p others w kind tags
+  pub lawful_heads : (l : Sizes) (words : List ℕ) (others : List (Party R W E)) (r : Party R W E) → LawfulRecords kit l words (r ∷ others) → party_asks kit by r ≢ Ended → HeadersChange kit.kind l words (applied (party_asks kit by r) words)
+  lawful_heads l words others (party.Pass p) w on =
+      pass_heads kit by l words p others w kit.kind (let movable = laws.movable in movable.keeps)
       (turn_of kit by laws laws.cycle l (announced_by w.collector) (cycle_of w.collector) w.space w.notices words p (stands_of kit by l words p others w (announced kit l words (party.Pass p ∷ others) w)) on)
-  lawful_heads l words others (party.Collector q) w on kind tags = collector_heads kit by laws.table laws.cycle l words others q w on kind
+  lawful_heads l words others (party.Collector q) w on = collector_heads kit by laws.table laws.cycle l words others q w on kit.kind
 
   -- the call that a pass is in stays what it is over its step, and ends only as such a call does
   pub lawful_calls : (l : Sizes) (words : List ℕ) (others : List (Party R W E)) (p : PassKnown R W E) → LawfulRecords kit l words (party.Pass p ∷ others) → pass_asks kit by p.pass.machine ≢ Ended

@@ -1,11 +1,10 @@
 -- The headers of objects under a turn of any party.
 use Rattle.std.specs.Prelude.{nat_lt, not, if◌then◌else◌}
-use Rattle.std.proofs.Common.{◌≡◌, ◌≢◌, ℕ, List, ◌∷◌, map, inl, refl, sym, subst, Bool, true, false}
+use Rattle.std.proofs.Common.{◌≡◌, ◌≢◌, ℕ, List, ◌∷◌, map, inl, refl, sym, subst, Bool, true, false, []}
 use Rattle.std.proofs.lemmas.Bool.{ltb-false}
 use Rattle.call_steps.specs.declared.step.Step.{Step}
 use Rattle.call_steps.specs.declared.step.Step.TheVariants.{Ended}
 use Rattle.heap_words.specs.Layouts.{IsPass}
-use Rattle.object_headers.specs.declared.change.Kind.{Kind}
 use Rattle.barriers.specs.Kits.{Kit, Stepping, Laws}
 use Rattle.lawful_records.specs.Collectors as collectors
 use Rattle.lawful_records.specs.HeaderChanges.{HeadersChange}
@@ -18,9 +17,9 @@ use Rattle.gc_cycle.proofs.records.Coming.{taken_comes}
 use Rattle.gc_cycle.proofs.records.Stepped.{in_pass, apart}
 use Rattle.gc_cycle.proofs.records.TurnLaws.{goes_on, collector_first}
 
-module _ {R W E M : Type 0} (kit : Kit R W E M) (by : Stepping R W E M) (laws : Laws kit by) (w : State R W E) (lawful : Lawful kit w) (kind : Kind) where
+module _ {R W E M : Type 0} (kit : Kit R W E M) (by : Stepping R W E M) (laws : Laws kit by) (w : State R W E) (lawful : Lawful kit w) where
   abbrev Heads : State R W E → Type 0
-  Heads next = HeadersChange kind w.layout w.words next.words
+  Heads next = HeadersChange kit.kind w.layout w.words next.words
 
   -- no step
   still_heads : Heads w
@@ -41,14 +40,14 @@ module _ {R W E M : Type 0} (kit : Kit R W E M) (by : Stepping R W E M) (laws : 
   collects = parties.Collector (record { machine = w.collector; awaited = w.awaited; sealed = [] })
 
   collected_heads : collectors.asks_of w.collector ≢ Ended → Heads (collected kit by w)
-  collected_heads on = lawful_heads kit by laws w.layout w.words passes collects (lawful_regroups kit w.layout w.words (records_in w) (collects ∷ passes) (collector_first kit by laws w lawful) lawful.records) on kind
+  collected_heads on = lawful_heads kit by laws w.layout w.words passes collects (lawful_regroups kit w.layout w.words (records_in w) (collects ∷ passes) (collector_first kit by laws w lawful) lawful.records) on
 
   taken_heads : (number : ℕ) → IsPass w.layout number → asks_at kit by w number ≢ Ended → Heads (taken kit by w number)
   taken_heads number is on =
       let first = apart kit by laws w lawful number is in
       let before = lawful_regroups kit w.layout w.words (records_in w) (in_pass w (pass_at w number) ∷ first.0) first.1 lawful.records in
-      let heads = lawful_heads kit by laws w.layout w.words first.0 (in_pass w (pass_at w number)) before on kind in
-      subst (HeadersChange kind w.layout w.words) (sym (taken_comes kit by laws w lawful number is on).leaves.words) heads
+      let heads = lawful_heads kit by laws w.layout w.words first.0 (in_pass w (pass_at w number)) before on in
+      subst (HeadersChange kit.kind w.layout w.words) (sym (taken_comes kit by laws w lawful number is on).leaves.words) heads
 
   chosen : (number : ℕ) → IsParty w.layout number → (late : Bool) → nat_lt w.layout.passes number ≡ late → (t : Step) → (if late then collectors.asks_of w.collector else asks_at kit by w number) ≡ t → (over : Bool) → is_ended t ≡ over
       → Heads (if not over then (if late then collected kit by w else taken kit by w number) else w)

@@ -46,11 +46,11 @@ collector_in w = parties.Collector (record { machine = w.collector; awaited = w.
 
 -- ---- what is sealed: nothing
 
-all_unsealed : {R W E : Type 0} → (w : State R W E) (passes : List (PassRecord R W E)) → All (λ r. sealed_by r ≡ []) (map (in_pass w) passes ++ collector_in w)
+pub all_unsealed : {R W E : Type 0} → (w : State R W E) (passes : List (PassRecord R W E)) → All (λ r. sealed_by r ≡ []) (map (in_pass w) passes ++ collector_in w)
 all_unsealed w [] = All-cons (λ r. sealed_by r ≡ []) _ [] refl (All-nil (λ r. sealed_by r ≡ []))
 all_unsealed w (p ∷ passes) = All-cons (λ r. sealed_by r ≡ []) (in_pass w p) (map (in_pass w) passes ++ collector_in w) refl (all_unsealed w passes)
 
-none_sealed : {R W E : Type 0} → (rs : List (Party R W E)) → All (λ r. sealed_by r ≡ []) rs → sealed_of rs ≡ []
+pub none_sealed : {R W E : Type 0} → (rs : List (Party R W E)) → All (λ r. sealed_by r ≡ []) rs → sealed_of rs ≡ []
 none_sealed [] none = refl
 none_sealed (r ∷ rs) none = ap (λ first. first ++ sealed_of rs) (All-head (λ r. sealed_by r ≡ []) r rs none) ∙ none_sealed rs (All-tail (λ r. sealed_by r ≡ []) r rs none)
 

@@ -44,14 +44,17 @@ use Rattle.barriers.specs.declared.front.Front.{Front}
 use Rattle.barriers.specs.declared.front.Front.TheVariants.{Stays, Now, SealedOrNow}
 use Rattle.barriers.specs.Records.{ended_of, with_end, IsReady}
 use Rattle.lawful_records.specs.Cycling.{announced_by, cycle_of}
-use Rattle.lawful_records.specs.LawfulRecords.{LawfulRecords, IsPassRecord}
+use Rattle.lawful_records.specs.LawfulRecords.{AreSealed, LawfulRecords, IsPassRecord}
 use Rattle.lawful_records.specs.Beginnings.{word_of_end, word_told, rested}
 use Rattle.lawful_records.specs.PassTurns.{IsAnnounced, PassStands, HasTurn, pass_after}
 use Rattle.lawful_records.specs.Making.{IsRoom, IsRoomIn, has_room}
 use Rattle.lawful_records.specs.Records.{registers_by, room_by, view_by, number_of, taken_in}
-use Rattle.lawful_records.specs.Turns.{pass_asks, pass_fed, front_by, change_by}
+use Rattle.lawful_records.specs.Turns.{pass_asks, pass_fed, pass_turned, front_by, change_by}
 use Rattle.lawful_records.specs.declared.records.PassKnown.{PassKnown}
+use Rattle.lawful_records.proofs.calls.Sights.{IsSealAt, turned_alike}
+use Rattle.lawful_records.proofs.parties.Seals.{are_sealed}
 use Rattle.lawful_records.proofs.turns.OwnTurns.{turn_of, kept_of}
+use Rattle.gc_cycle.proofs.records.Stepped.{all_unsealed, none_sealed}
 use Rattle.lawful_records.proofs.beginnings.Taking.{Standing, end_good}
 use Rattle.lawful_records.proofs.turns.Stepping.{own_there}
 use Rattle.gc_cycle.specs.Worlds.{State, pass_at, command_at, changes_now, asks_at, found_at, fed_at, seen_with, EndFits}
@@ -166,12 +169,23 @@ module _ {R W E M : Type 0} (kit : Kit R W E M) (by : Stepping R W E M) (laws : 
   kept : Kept kit by laws l a c has.space has.notices w.told.log s.history history p k.seen k.mine k.ended (let own = stands.own in let told = own.told in told.count) n stands.layout in_layout few p.machine
   kept = kept_of kit by laws laws.cycle l a c s records.notices w.words k stands on
 
+  -- nothing is sealed
+  unsealed : (at : ℕ) → IsSealAt s at None
+  unsealed at x f live inside is =
+      let one = records.parties in
+      let are = subst (AreSealed s) (none_sealed (records_in w) (all_unsealed w w.passes)) (are_sealed kit l records.collector s records.notices (records_in w) one.collector records.each) in
+      are.seals x f live inside
+
+  own_unsealed : IsPassRecord kit l a c has.space has.notices (pass_turned kit by None s.history k n)
+  own_unsealed = let turn = has.turn in
+      subst (IsPassRecord kit l a c has.space has.notices) (sym (turned_alike kit by laws l a c s records.notices w.words k stands on None (unsealed (place_of (asks_at kit by w party))))) turn.own
+
   says : StepSays kit by laws l a c has.space has.notices w.told.log s.history history p k.seen k.mine k.ended (let own = stands.own in let told = own.told in told.count) n p.machine (command_at w party)
   says =
       let thread = lw.threads party is in
       let turn = has.turn in
       says_of kit by laws l a c has.space has.notices w.told.log s.history history p k.seen k.mine k.ended (let own = stands.own in let told = own.told in told.count) n stands.layout in_layout few p.machine (command_at w party)
-      (fits_at (command_at w party) refl) thread.at on frees kept (record { own = turn.own; history = turn.history })
+      (fits_at (command_at w party) refl) thread.at on frees kept (record { own = own_unsealed; history = turn.history })
 
   -- the record after its step, with the word that it finds
   abbrev then : ℕ → PassRecord R W E

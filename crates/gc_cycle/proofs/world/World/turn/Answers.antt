@@ -19,7 +19,7 @@ returns-then-is_ended-clause-headers g c =
     let by = stepping_of g.P.Read.Machine.asks g.P.Write.Machine.asks g.P.Exchange.Machine.asks g.P.Move.Machine.asks g.P.Read.Machine.fed g.P.Write.Machine.fed g.P.Exchange.Machine.fed g.P.Move.Machine.fed g.P.Read.Watched.front g.P.Write.Watched.front g.P.Exchange.Watched.front g.P.Read.CallMachine.steps_left g.P.Write.CallMachine.steps_left g.P.Exchange.CallMachine.steps_left in
     let w = c.args.self.now in
     let rests = turn_of-rests g.P.Copier.kit by w c.args.party c.next-step.result c.is_ended.result c.next-step.ensures c.is_ended.ensures c.if-is_ended.true in
-    subst (HeadersChange g.P.Copier.KIND w.layout w.words) (ap (λ s. s.words) rests) (turn_headers g.P.Copier.kit by g.met.P.Copier.laws w c.requires.lawful c.args.party c.requires.party g.P.Copier.KIND)
+    subst (HeadersChange g.P.Copier.KIND w.layout w.words) (ap (λ s. s.words) rests) (turn_headers g.P.Copier.kit by g.met.P.Copier.laws w c.requires.lawful c.args.party c.requires.party g.P.Copier.KIND g.met.P.Copier.kind)
 
 pub returns-clause-lawful : goal.returns-clause-lawful
 returns-clause-lawful g c = subst (Lawful g.P.Copier.kit) (sym c.step.ensures) (turn_keeps g.P.Copier.kit _ g.met.P.Copier.laws c.args.self.now c.requires.lawful c.args.party c.requires.party)
@@ -38,4 +38,4 @@ pub returns-clause-headers : goal.returns-clause-headers
 returns-clause-headers g c =
     let by = stepping_of g.P.Read.Machine.asks g.P.Write.Machine.asks g.P.Exchange.Machine.asks g.P.Move.Machine.asks g.P.Read.Machine.fed g.P.Write.Machine.fed g.P.Exchange.Machine.fed g.P.Move.Machine.fed g.P.Read.Watched.front g.P.Write.Watched.front g.P.Exchange.Watched.front g.P.Read.CallMachine.steps_left g.P.Write.CallMachine.steps_left g.P.Exchange.CallMachine.steps_left in
     let w = c.args.self.now in
-    subst (HeadersChange g.P.Copier.KIND w.layout w.words) (sym (ap (λ s. s.words) c.step.ensures)) (turn_headers g.P.Copier.kit by g.met.P.Copier.laws w c.requires.lawful c.args.party c.requires.party g.P.Copier.KIND)
+    subst (HeadersChange g.P.Copier.KIND w.layout w.words) (sym (ap (λ s. s.words) c.step.ensures)) (turn_headers g.P.Copier.kit by g.met.P.Copier.laws w c.requires.lawful c.args.party c.requires.party g.P.Copier.KIND g.met.P.Copier.kind)
