@@ -1,6 +1,7 @@
 -- What a turn of one party is to all others, and what a step of a call comes to.
 use Rattle.std.specs.Prelude.{◌≡◌, ◌≢◌, ℕ, ◌<◌, ◌⊎◌, true, List, Some}
 use Rattle.heap_words.specs.declared.field_word.FieldWord.{FieldWord}
+use Rattle.space_reclaim.specs.declared.move_job.MoveJob.{MoveJob}
 use Rattle.heap_history.specs.FixedHeaps.{answer}
 use Rattle.heap_history.specs.NewestFirst.{heap_of_history, Before}
 use Rattle.heap_history.specs.declared.call.Call.{Call}
@@ -9,9 +10,10 @@ use Rattle.barriers.specs.Spaces.{Space, here, zone, Copied, place_word, copy_wo
 use Rattle.barriers.specs.Cycles.{Cycle, Side}
 use Rattle.barriers.specs.Knowns.{Known, has_found, spot_of, task_of, call_of, copy_of, wide_of, puts}
 use Rattle.barriers.specs.Events.{Event, after, after_copy, May}
+use Rattle.barriers.specs.Moves.{Carried, job_of}
 use Rattle.barriers.specs.Protocols.{Protocol}
 use Rattle.barriers.specs.ProtocolLaws.{Dated, ByPass, GoesOn}
-use Rattle.barriers.specs.Objects.{Counts, HasLens, AreObjects, IsSide, IsCall, reply_made}
+use Rattle.barriers.specs.Objects.{Counts, HasLens, AreObjects, IsSide, IsCall, IsMove, reply_made}
 use Rattle.barriers.specs.Accesses.{found_in, space_after, side_after, known_after}
 
 -- the copy that a call is at, of the object at `at`
@@ -52,6 +54,8 @@ module _ (P : Protocol) where
     pub call : IsCall P c (space_after c s p k) (side_after c s p k) (known_after P c s p k)
     pub seen : Seen c s (space_after c s p k)
     pub homes : (a : ℕ) → IsHome (s.state a) → IsHome ((space_after c s p k).state a)
+    -- a move stays where it is
+    pub moves : (m : Carried) (j : MoveJob) → job_of m ≡ Some j → IsMove P c s m j → IsMove P c (space_after c s p k) m j
     -- how it goes on, and what it has found it has found in the object
     pub goes : GoesOn P p.acked p.own k (found_in c s k)
     pub found_inside : has_found (known_after P c s p k) ≡ true → (spot_of k).field < s.len (spot_of k).at

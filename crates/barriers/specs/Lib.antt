@@ -11,6 +11,7 @@ pub mod Kits
 pub mod KnownLaws
 pub mod Knowns
 pub mod MoveSteps
+pub mod MoveTurns
 pub mod Moves
 pub mod NewObjectCauses
 pub mod NewObjects

@@ -2,6 +2,7 @@
 use Rattle.std.specs.Prelude.{◌≡◌, ◌≢◌, ℕ, ◌<◌, ◌≤◌, ◌⊎◌, true, List, ◌∷◌, Some, None}
 use Rattle.object_headers.specs.declared.header.Header.{Header}
 use Rattle.object_headers.specs.declared.header.State.TheVariants as states
+use Rattle.object_headers.specs.Headers.{word_of_header}
 use Rattle.wide_objects.specs.Statuses.{InOriginal}
 use Rattle.space_reclaim.specs.declared.move_job.MoveJob.{MoveJob}
 use Rattle.heap_history.specs.FixedHeaps.{answer}
@@ -18,7 +19,8 @@ use Rattle.barriers.specs.Spaces.{Space, Holds, here, place_word, copy_word, hel
 use Rattle.barriers.specs.Values.{value_of}
 use Rattle.barriers.specs.Cycles.{Cycle, Side}
 use Rattle.barriers.specs.Knowns.{Task, Reads, Writes, Exchanges, Known, Over, Refused, at_field, has_field, spot_of, task_of, call_of, hand_of, head_of}
-use Rattle.barriers.specs.Moves.{Carried, Lays}
+use Rattle.barriers.specs.Events.{IsStill}
+use Rattle.barriers.specs.Moves.{Carried, Looks, Lays}
 use Rattle.barriers.specs.Protocols.{Protocol, Answered, OnHand, TargetIs, has_made}
 
 -- a field's word is in the copy, or on its way
@@ -41,17 +43,24 @@ pub record IsCopy (s : Space) (a t : ℕ) (x : State) : Type 0 where
   pub birth : s.birth t ≡ s.birth a
   pub len : s.len t ≡ s.len a
 
--- a copy under way
+-- a copy under way, and the wide object that the original then has
 pub record IsLaid (s : Space) (j : MoveJob) : Type 0 where
   pub copy : IsCopy s j.from j.to Underway
+  pub colour : s.colour j.to ≡ s.colour j.from
   pub to : s.to j.from ≡ j.to
+  pub wide : s.wide j.from ≡ j.wide
   pub status : (g : ℕ) → s.status j.to g ≡ InOriginal
   pub seal : s.seal j.to ≡ None
 
--- nothing is there before the copy's header is stored
+-- nothing is there before the copy's header is stored, and a mover that only looks has no copy
 abbrev pub CopyAt : Space → Carried → MoveJob → Type 0
+CopyAt s (Looks j) k = Unit {0}
 CopyAt s (Lays j) k = s.state k.to ≡ Absent
 CopyAt s m k = IsLaid s k
+
+-- the header of the object that a move is of, as a walk found it
+abbrev pub planned_header : Space → MoveJob → Header
+planned_header s j = record { state = states.Plain; colour = s.colour j.from; len = j.len; birth = j.birth; target = 0 }
 
 -- the header of an object that is tagged
 abbrev pub tagged_header : Space → ℕ → Header
@@ -79,7 +88,8 @@ HasLens s = (a : ℕ) → IsLive (s.state a) → len_at s.history (s.birth a) �
 
 module _ (P : Protocol) where
   -- The place of each field of a home has the word of the field, of the value that the heap has there; each birth number has one home; a
-  -- header's target is the copy or the wide object; links in words that count hold; and the copier's part holds at each field.
+  -- header's target is the copy or the wide object; links in words that count hold; the copier's part holds at each field; and an object has
+  -- no seal before its move.
   pub record AreObjects (c : Cycle) (s : Space) : Type 0 where
     pub placed : (a f : ℕ) → IsHome (s.state a) → f < s.len a → s.field a f ≡ place_word c.mark (here s a f) (copy_word s a f)
     pub agrees : (a f : ℕ) → IsHome (s.state a) → f < s.len a → value_of (s.field a f) ≡ value_at s.history (s.birth a) f
@@ -92,6 +102,7 @@ module _ (P : Protocol) where
     pub statuses : (a f : ℕ) → IsLive (s.state a) → Counts c (s.state a) → f < s.len a → On (Holds s) (held (s.status a f))
     pub shape : (a f : ℕ) → IsLive (s.state a) → f < s.len a → P.Shape c (s.birth a) f (here s a f) (copy_word s a f)
     pub seals : (a : ℕ) (past : List Call) → s.seal a ≡ Some past → Before past s.history
+    pub unsealed : (a : ℕ) → IsStill (s.state a) → s.seal a ≡ None
     pub right : P.Right c
     -- the mark is a number
     pub number : OnHand (λ b a. ⊥) c.mark
@@ -123,6 +134,7 @@ module _ (P : Protocol) where
     pub live : IsHome (s.state j.from)
     pub len : s.len j.from ≡ j.len
     pub birth : s.birth j.from ≡ j.birth
+    pub header : j.header ≡ word_of_header (planned_header s j)
     pub copy : CopyAt s m j
     -- it is no copy itself
     pub apart : (a : ℕ) → IsForward (s.state a) → s.to a ≢ j.from

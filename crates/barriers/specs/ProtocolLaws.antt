@@ -10,14 +10,14 @@ use Rattle.heap_history.specs.NewestFirst.{value_at, Before}
 use Rattle.heap_history.specs.declared.call.Call.{Call}
 use Rattle.barriers.specs.declared.spot.Spot.{Spot}
 use Rattle.barriers.specs.declared.ends.TryRefusal.TheVariants as refusal
-use Rattle.barriers.specs.States.{IsLive, Plain, Kept}
+use Rattle.barriers.specs.States.{State, Plain, Kept, Tagged, Wide, Moving, IsLive}
 use Rattle.barriers.specs.Stances.{Stance}
 use Rattle.barriers.specs.Spaces.{Here, zone, Copied, place_word}
 use Rattle.barriers.specs.Values.{value_of}
 use Rattle.barriers.specs.Cycles.{Cycle, Side, Phasing, phased, MayTurn, MayGo, MayPhase}
 use Rattle.barriers.specs.Knowns.{Task, Known, Over, Refused, Finds, Header_word, Ending, at_field, has_field, has_found, spot_of, task_of, copy_of, wide_of, head_of, hand_of, writes_yet, finds, puts, wanted, looks, front}
 use Rattle.barriers.specs.Events.{Event, Quiet, Keep, Write, Write_copy, Widen, Seal, Pass_on, Seal_on, Fix_word, after, after_copy, May, event, IsStill}
-use Rattle.barriers.specs.Moves.{Carried, Lays, Gives_up, Forwards, IsAtField, job_of, field_of, move_finds, move_event}
+use Rattle.barriers.specs.Moves.{Carried, Looks, Lays, Gives_up, Forwards, IsAtField, job_of, field_of, move_finds, move_event}
 use Rattle.barriers.specs.Protocols.{Protocol, Wants, Answered, Suits, From, TargetIs, has_made, seen_after, word_found}
 
 -- a machine of a pass, at a field that it names: here x, in the copy w
@@ -157,8 +157,27 @@ pub record TurnLaws (P : Protocol) : Type 0 where
 
 -- ---- moves
 
+-- a mover begins by a look, or by the store of the copy's header
+abbrev pub IsFirst : MoveJob → Carried → Type 0
+IsFirst j m = (m ≡ Looks j) ⊎ (m ≡ Lays j)
+
+-- the exchange of the header that its mover makes now sends the object to its copy
+abbrev pub IsLeaving : State → Type 0
+IsLeaving Tagged = Unit {0}
+IsLeaving (Wide wide) = Unit {0}
+IsLeaving (Moving to) = Unit {0}
+IsLeaving _ = ⊥
+
+-- a mover ends after a look, after it has given the copy up, and after the object has gone to it
+abbrev pub MayEnd : Carried → State → Type 0
+MayEnd (Looks j) x = Unit {0}
+MayEnd (Gives_up j) x = Unit {0}
+MayEnd (Forwards j) x = IsLeaving x
+MayEnd m x = ⊥
+
 pub record MoveLaws (P : Protocol) : Type 0 where
   -- what is known of the header is the same at all fields; and the mover's rows under steps of passes
+  pub looks : (c : Cycle) (j : MoveJob) (g : ℕ) (x : Here) (w : FieldWord) → P.MoveField c (Looks j) g x w
   pub lays : (c : Cycle) (j : MoveJob) (g : ℕ) (x : Here) (w : FieldWord) → P.MoveField c (Lays j) g x w
   pub heads : (c : Cycle) (m : Carried) (x y : Here) → SameHead x y → P.MoveHead c m x → P.MoveHead c m y
   pub head_stays : (c : Cycle) (m : Carried) (x : Here) (e : Event) → P.Makes e → ByPass e → May c x e → P.MoveHead c m x → P.MoveHead c m (after e x)
@@ -171,11 +190,14 @@ pub record MoveLaws (P : Protocol) : Type 0 where
   -- the field that it is at is one of the object's
   pub inside : (c : Cycle) (m : Carried) (j : MoveJob) (x : Here) → job_of m ≡ Some j → IsAtField m → P.MoveHead c m x → field_of m < j.len
   -- how a move begins and ends
+  pub first : (j : MoveJob) → IsFirst j (P.move_begins j)
+  pub looked : (j : MoveJob) (found : Finds) → job_of (P.move_fed (Looks j) found) ≡ None
   pub begins : (m : Carried) (found : Finds) (j : MoveJob) → P.move_fed m found ≡ Lays j → ⊥
   pub still : (c : Cycle) (j : MoveJob) (x : Here) → P.MoveHead c (Lays j) x → IsStill x.state
   pub gives_up : (c : Cycle) (j : MoveJob) (x : Here) → P.MoveHead c (Gives_up j) x → x.state ≡ Kept
   pub given_up : (j : MoveJob) (found : Finds) → job_of (P.move_fed (Gives_up j) found) ≡ None
   pub forwarded : (c : Cycle) (j : MoveJob) (x : Here) → P.MoveHead c (Forwards j) x → (x.state ≡ Kept) ⊎ (job_of (P.move_fed (Forwards j) (Header_word x.state x.colour x.len)) ≡ None)
+  pub ends : (c : Cycle) (m : Carried) (j : MoveJob) (x : Here) → job_of m ≡ Some j → P.MoveHead c m x → job_of (P.move_fed m (move_finds x m)) ≡ None → MayEnd m x.state
 
 pub record ProtocolLaws (P : Protocol) : Type 0 where
   pub calls : CallLaws P

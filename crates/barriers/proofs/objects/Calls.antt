@@ -2,6 +2,7 @@
 use Rattle.std.proofs.Common.{◌≡◌, ◌≢◌, ℕ, ◌<◌, ◌⊎◌, inl, inr, refl, arith, ap, sym, subst, ◌∙◌, true, Option, Some, None, is_some, List, ◌∷◌}
 use Rattle.heap_words.specs.declared.field_word.FieldWord.{FieldWord}
 use Rattle.wide_objects.specs.Statuses.{InWide}
+use Rattle.space_reclaim.specs.declared.move_job.MoveJob.{MoveJob}
 use Rattle.heap_history.specs.FixedHeaps.{answer}
 use Rattle.heap_history.specs.NewestFirst.{heap_of_history, value_at, len_at, Before}
 use Rattle.heap_history.specs.ValueLaws.{len_at-stays}
@@ -14,19 +15,22 @@ use Rattle.barriers.specs.Values.{value_of}
 use Rattle.barriers.specs.Cycles.{Cycle, Side}
 use Rattle.barriers.specs.Knowns.{Task, Ending, Known, Over, Refused, Finds, at_field, has_field, hand_of, spot_of, task_of, copy_of, call_of, puts}
 use Rattle.barriers.specs.Events.{IsUncopied, IsWide, Quiet, Keep, Write, Write_copy, Widen, after, May, Writable, Unmarked, event, grown}
+use Rattle.barriers.specs.Moves.{Carried, job_of}
 use Rattle.barriers.specs.Protocols.{Protocol, OnHand, OnFound, seen_after}
 use Rattle.barriers.specs.ProtocolLaws.{At, StepEnd, GoesTo, ProtocolLaws, tagged_here}
 use Rattle.barriers.specs.PlainCallLaws.{spot_at}
-use Rattle.barriers.specs.Objects.{IsForward, IsCopy, AreObjects, IsSide, IsCall, HasLens, IsMade, reply_made, tagged_header}
+use Rattle.barriers.specs.Objects.{IsForward, IsCopy, AreObjects, IsSide, IsCall, IsMove, HasLens, IsMade, reply_made, tagged_header}
 use Rattle.barriers.specs.Accesses.{put_word, put_status, put_state, found_in, space_after, side_after, known_after, history_after}
 use Rattle.barriers.specs.CallTurns.{IsAimed, Seen, CallStep}
 use Rattle.barriers.proofs.words.Sets.{set_here}
 use Rattle.barriers.proofs.objects.Base.{set2_here, set2_else, hand_goes, carrying_home, copied_place, copied_state, not_underway}
 use Rattle.barriers.proofs.objects.Changes.{IsPut, value_put, puts_word, puts_hand, puts_inside, puts_wanted, put_fits}
+use Rattle.barriers.proofs.objects.MoveStays.{put_move, wide_move, keep_move}
 use Rattle.barriers.proofs.objects.Outcomes.{Outcome, Still, Keeping, Putting, Putting_copy, Widening, outcome, found_on, found_goes, hand_holds}
 use Rattle.barriers.proofs.objects.Puts.{Site, At_home, At_copy, writable_home, put_seen, put_objects}
 use Rattle.barriers.proofs.objects.Seen.{value_here, same_seen, holds_goes, lens_go, header_stays}
-use Rattle.barriers.proofs.objects.Widens.{wide_seen, wide_objects, keep_seen, keep_homes, keep_objects, keep_back}
+use Rattle.barriers.proofs.objects.Stills.{keep_step}
+use Rattle.barriers.proofs.objects.Widens.{wide_seen, wide_objects}
 
 -- what the space becomes by the step
 record IsTurn (P : Protocol) (c : Cycle) (s : Space) (side : Side) (k : Known) (t : Space) : Type 0 where
@@ -34,6 +38,7 @@ record IsTurn (P : Protocol) (c : Cycle) (s : Space) (side : Side) (k : Known) (
   lens : HasLens t
   seen : Seen P c s t
   homes : (a : ℕ) → IsHome (s.state a) → IsHome (t.state a)
+  moves : (m : Carried) (j : MoveJob) → job_of m ≡ Some j → IsMove P c s m j → IsMove P c t m j
   at_t : here t (spot_of k).at (spot_of k).field ≡ after (event k (found_in c s k)) (here s (spot_of k).at (spot_of k).field)
   told : t.history ≡ history_after c s side k
 
@@ -212,17 +217,19 @@ module _ (P : Protocol) (L : ProtocolLaws P) (c : Cycle) (s : Space) (side : Sid
   now_put v e = rw (new_is (Some v) e) (is_put v e)
 
   still : puts k found ≡ None → event k found ≡ Quiet → IsTurn P c s side k s
-  still e ev = record { objects = w; lens = lens; seen = same_seen P L c s; homes = λ y i. i; at_t = rw ev refl; told = sym (new_is None e) }
+  still e ev = record { objects = w; lens = lens; seen = same_seen P L c s; homes = λ y i. i; moves = λ m j job move. move; at_t = rw ev refl; told = sym (new_is None e) }
 
   keeping : puts k found ≡ None → event k found ≡ Keep → IsTurn P c s side k (put_state s a Kept)
   keeping e ev =
       let makes : P.Makes Keep = subst P.Makes ev step_end.makes in
       let tagged : s.state a ≡ Tagged = subst (May c x) ev step_end.may in
+      let kept = keep_step P L c s a w lens makes tagged in
       record {
-        objects = keep_objects P L c s w a makes tagged;
-        lens = λ y i. lens y (keep_back P L c s w a makes tagged y i);
-        seen = keep_seen P L c s w a makes tagged;
-        homes = keep_homes P L c s w a makes tagged;
+        objects = kept.objects;
+        lens = kept.lens;
+        seen = kept.seen;
+        homes = kept.homes;
+        moves = λ m j job move. keep_move P L c s w m j job move a makes tagged;
         at_t = rw (ev, set_here s.state a Kept) refl;
         told = sym (new_is None e);
       }
@@ -245,6 +252,7 @@ module _ (P : Protocol) (L : ProtocolLaws P) (c : Cycle) (s : Space) (side : Sid
       lens = lens_later;
       seen = put_seen P L c s w z.birth to f v new later state_home birth_home clean (word_holds v e) site (now_put v e);
       homes = λ y i. i;
+      moves = λ m j job move. put_move P L c s w m j job move z.birth to f v new later state_home birth_home clean (word_holds v e) site (now_put v e);
       at_t = at_t;
       told = refl;
     }
@@ -284,6 +292,7 @@ module _ (P : Protocol) (L : ProtocolLaws P) (c : Cycle) (s : Space) (side : Sid
         lens = lens_later;
         seen = rw (sym birth) (wide_seen P L c s w a f v new later makes may.0 may.1 (word_holds v e) put);
         homes = λ y i. i;
+        moves = λ m j job move. rw (sym birth) (wide_move P L c s w m j job move a f v new makes may.0 may.1);
         at_t = rw (ev, set2_here s.status a f (InWide v)) refl;
         told = refl;
       }
@@ -305,6 +314,7 @@ module _ (P : Protocol) (L : ProtocolLaws P) (c : Cycle) (s : Space) (side : Sid
         call = call_turned (space_after c s side k) turn.seen turn.at_t turn.told;
         seen = turn.seen;
         homes = turn.homes;
+        moves = turn.moves;
         goes = goes;
         found_inside = step_end.found_inside;
         aim = aimed;

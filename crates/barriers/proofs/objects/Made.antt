@@ -6,6 +6,7 @@ use Rattle.heap_words.specs.declared.field_word.FieldWord.{FieldWord}
 use Rattle.heap_words.specs.declared.field_word.FieldWord.TheVariants.{Num}
 use Rattle.object_headers.specs.declared.header.Colour.{Colour}
 use Rattle.wide_objects.specs.Statuses.{InOriginal}
+use Rattle.space_reclaim.specs.declared.move_job.MoveJob.{MoveJob}
 use Rattle.heap_history.specs.FixedHeaps.{answer, fields_of, field_in}
 use Rattle.heap_history.specs.NewestFirst.{heap_of_history, value_at, len_at}
 use Rattle.heap_history.specs.ValueLaws.{value_at-new, len_at-new, len_at-made, len_at-stays}
@@ -20,16 +21,19 @@ use Rattle.barriers.specs.Spaces.{Space, Holds, Here, here, zone, Copied, place_
 use Rattle.barriers.specs.Values.{value_of}
 use Rattle.barriers.specs.Cycles.{Cycle}
 use Rattle.barriers.specs.Events.{Quiet}
+use Rattle.barriers.specs.Moves.{Carried, job_of}
 use Rattle.barriers.specs.Protocols.{Protocol, TargetIs}
 use Rattle.barriers.specs.ProtocolLaws.{ProtocolLaws}
-use Rattle.barriers.specs.Objects.{IsCarrying, IsForward, IsCopy, AreObjects, HasLens}
+use Rattle.barriers.specs.Objects.{IsCarrying, IsForward, IsCopy, IsLaid, AreObjects, IsMove, HasLens}
 use Rattle.barriers.specs.Says.{append}
 use Rattle.barriers.specs.CallTurns.{Sees, Seen}
+use Rattle.barriers.specs.MoveTurns.{SameBody}
 use Rattle.barriers.proofs.words.Sets.{set_here, set_else}
 use Rattle.barriers.proofs.objects.Base.{number_tells, on_goes, home_live, forward_live, carrying_home, copied_state, place_apart, place_cong, plain_place}
 use Rattle.barriers.proofs.objects.Seen.{holds_goes, shape_stays}
+use Rattle.barriers.proofs.objects.MoveStays.{copy_goes, laid_goes, field_goes}
 
-live_absent : (x : State) → IsLive x → x ≡ Absent → ⊥
+pub live_absent : (x : State) → IsLive x → x ≡ Absent → ⊥
 live_absent x i e = grind (arith, i, e)
 
 -- a field of an object that is not there
@@ -187,6 +191,10 @@ module _ (P : Protocol) (L : ProtocolLaws P) (c : Cycle) (s : Space) (w : AreObj
       | inl q ↦ absurd (let gone : None ≡ Some past = sym (ap t.seal q ∙ set_here s.seal a None) ∙ e in cc)
       | inr n ↦ inr (w.seals x past (sym (set_else s.seal a x None n) ∙ e))
     ];
+    unsealed = λ x i. elim (number_tells x a) [
+      | inl e ↦ rw e (set_here s.seal a None)
+      | inr n ↦ set_else s.seal a x None n ∙ w.unsealed x (rw (new_state x n) at i)
+    ];
     number = w.number;
     right = w.right;
   }
@@ -197,3 +205,33 @@ module _ (P : Protocol) (L : ProtocolLaws P) (c : Cycle) (s : Space) (w : AreObj
     | inr n ↦ (let h : IsLive (s.state x) = rw (new_state x n) at i in
         ap (len_at (call ∷ s.history)) (set_else s.birth a x birth n) ∙ (len_at-stays call s.history (s.birth x) (s.len x) (lens x h) ∙ ap Some (sym (set_else s.len a x len n))))
   ]
+
+  -- ---- a move whose copy is elsewhere stays where it is
+  module _ (m : Carried) (j : MoveJob) (job : job_of m ≡ Some j) (o : IsMove P c s m j) (apart : a ≢ j.to) where
+    from_a : j.from ≢ a
+    from_a = not_a j.from (home_live (s.state j.from) o.live)
+
+    to_a : j.to ≢ a
+    to_a e = apart (sym e)
+
+    same_body : (x : ℕ) → x ≢ a → SameBody s t x
+    same_body x n = record { colour = set_else s.colour a x colour n; len = set_else s.len a x len n; birth = set_else s.birth a x birth n; to = refl; wide = set_else s.wide a x 0 n }
+
+    laid_stays : IsLaid s j → IsLaid t j
+    laid_stays = laid_goes s t j (same_body j.from from_a) (same_body j.to to_a) (λ e. new_state j.to to_a ∙ e) (λ g. row s.status j.to g (λ f. InOriginal) to_a) (set_else s.seal a j.to None to_a)
+
+    copy_stays : IsLaid s j → (g : ℕ) → copy_word t j.from g ≡ copy_word s j.from g
+    copy_stays k g = row s.word (s.to j.from) g (λ f. Num 0) (λ e. to_a (sym k.to ∙ e))
+
+    pub made_leaves_move : IsMove P c t m j
+    made_leaves_move = record {
+      late = o.late;
+      live = made_homes j.from o.live;
+      len = (same_body j.from from_a).len ∙ o.len;
+      birth = (same_body j.from from_a).birth ∙ o.birth;
+      header = rw (same_body j.from from_a).colour o.header;
+      copy = copy_goes s t m j (λ e. new_state j.to to_a ∙ e) laid_stays o.copy;
+      apart = λ x i. elim (number_tells x a) [ inl e ↦ absurd (rw (e, a_state) at i) | inr n ↦ o.apart x (rw (new_state x n) at i) ];
+      head = rw (new_here j.from 0 from_a) o.head;
+      field = field_goes P L c s w m j job o t (λ k g lt. rw (new_here j.from g from_a, copy_stays k g) (o.field g lt));
+    }

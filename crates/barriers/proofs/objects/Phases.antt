@@ -51,6 +51,7 @@ module _ (P : Protocol) (L : ProtocolLaws P) (c : Cycle) (s : Space) (w : AreObj
     statuses = λ a f i r lt. w.statuses a f i (is.counts a i r) lt;
     shape = λ a f i lt. L.turns.shape c (s.birth a) f (here s a f) (copy_word s a f) e is.kind (is.fields a f i lt) (w.shape a f i lt);
     seals = w.seals;
+    unsealed = w.unsealed;
     number = is.number;
     right = L.turns.right c e is.kind is.go w.right;
   }

@@ -43,18 +43,18 @@ module _ (P : Protocol) (L : ProtocolLaws P) (c : Cycle) (s : Space) (w : AreObj
   t = put_word s b z f v new
 
   -- a home of this birth number is the one
-  only : (a : ℕ) → IsHome (s.state a) → s.birth a ≡ b → a ≡ H
+  pub only : (a : ℕ) → IsHome (s.state a) → s.birth a ≡ b → a ≡ H
   only a i e = sym (w.home a i) ∙ ap s.home e
 
   site_birth : Site c s H z f v → s.birth z ≡ b
   site_birth (At_home e i) = ap s.birth e ∙ birth
   site_birth (At_copy e i q) = ap s.birth e ∙ ((w.under H i).birth ∙ birth)
 
-  z_birth : s.birth z ≡ b
+  pub z_birth : s.birth z ≡ b
   z_birth = site_birth site
 
   -- a live object at which the word is put is the home
-  site_live : Site c s H z f v → IsLive (s.state z) → (z ≡ H) × Writable c.told c.mark (s.state z) (s.word z f) v
+  pub site_live : Site c s H z f v → IsLive (s.state z) → (z ≡ H) × Writable c.told c.mark (s.state z) (s.word z f) v
   site_live (At_home e i) l = (e, i)
   site_live (At_copy e i q) l = absurd (not_underway (s.state z) l (ap s.state e ∙ (w.under H i).state))
 
@@ -137,6 +137,7 @@ module _ (P : Protocol) (L : ProtocolLaws P) (c : Cycle) (s : Space) (w : AreObj
     statuses = w.statuses;
     shape = shape_stays P L c s t w put_seen;
     seals = λ a past e. later past (w.seals a past e);
+    unsealed = w.unsealed;
     number = w.number;
     right = w.right;
   }

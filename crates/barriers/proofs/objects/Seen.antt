@@ -35,6 +35,10 @@ module _ (P : Protocol) (L : ProtocolLaws P) (c : Cycle) (s : Space) where
         ∙ w.agrees (s.to a) f home lt2 ∙ ap (λ b. value_at s.history b f) k.birth)
   ]
 
+  -- a birth number has one home
+  pub one_home : AreObjects P c s → (a b : ℕ) → IsHome (s.state a) → IsHome (s.state b) → s.birth a ≡ s.birth b → a ≡ b
+  one_home w a b i k e = sym (w.home a i) ∙ (ap s.home e ∙ w.home b k)
+
   -- a turn that changes nothing of the objects
   pub same_seen : Seen P c s s
   same_seen = record {

@@ -1,25 +1,23 @@
--- A wide word that a pass exchanges, and a header that it exchanges for Kept.
-use Rattle.std.proofs.Common.{◌≡◌, ◌≢◌, ℕ, ◌<◌, inl, inr, refl, arith, ap, sym, ◌∙◌, Option, List}
+-- A wide word that a pass exchanges.
+use Rattle.std.proofs.Common.{◌≡◌, ℕ, ◌<◌, inl, inr, refl, arith, ap, sym, ◌∙◌, Option, List}
 use Rattle.heap_words.specs.declared.field_word.FieldWord.{FieldWord}
 use Rattle.wide_objects.specs.Statuses.{InWide}
 use Rattle.heap_history.specs.NewestFirst.{value_at, Before}
 use Rattle.heap_history.specs.declared.call.Call.{Call}
-use Rattle.barriers.specs.States.{State, Plain, Kept, Tagged, Underway, IsHome, IsLive, On}
-use Rattle.barriers.specs.Spaces.{Space, Holds, Here, here, place_word, copy_word, held}
+use Rattle.barriers.specs.States.{State, IsHome, IsLive, On}
+use Rattle.barriers.specs.Spaces.{Space, Holds, Here, here, place_word, copy_word}
 use Rattle.barriers.specs.Values.{value_of}
 use Rattle.barriers.specs.Cycles.{Cycle}
-use Rattle.barriers.specs.Events.{IsWide, IsUncopied, Quiet, Keep, Widen}
-use Rattle.barriers.specs.Protocols.{Protocol, TargetIs}
+use Rattle.barriers.specs.Events.{IsWide, IsUncopied, Quiet, Widen}
+use Rattle.barriers.specs.Protocols.{Protocol}
 use Rattle.barriers.specs.ProtocolLaws.{ProtocolLaws}
-use Rattle.barriers.specs.Objects.{IsCarrying, IsForward, Counts, IsCopy, AreObjects}
-use Rattle.barriers.specs.Accesses.{put_status, put_state}
+use Rattle.barriers.specs.Objects.{AreObjects}
+use Rattle.barriers.specs.Accesses.{put_status}
 use Rattle.barriers.specs.CallTurns.{Sees, Seen}
-use Rattle.barriers.proofs.words.Sets.{set_cases, set2_cases}
-use Rattle.barriers.proofs.objects.Base.{set2_here, set2_else, on_goes}
+use Rattle.barriers.proofs.words.Sets.{set2_cases}
+use Rattle.barriers.proofs.objects.Base.{set2_here, set2_else}
 use Rattle.barriers.proofs.objects.Changes.{IsPut}
 use Rattle.barriers.proofs.objects.Seen.{shape_stays}
-
--- ---- a wide word
 
 wide_word : (mark : Option FieldWord) (x : Here) (v d : FieldWord) → IsWide x.state → place_word mark (record x { status = InWide v }) d ≡ v
 wide_word mark x v d i = grind (arith, i)
@@ -87,85 +85,7 @@ module _ (P : Protocol) (L : ProtocolLaws P) (c : Cycle) (s : Space) (w : AreObj
     statuses = λ x g i r lt. elim (set2_cases s.status a f (InWide v) x g) [ inl q ↦ rw q.2 hold | inr q ↦ rw q.1 (w.statuses x g i r lt) ];
     shape = shape_stays P L c s u w wide_seen;
     seals = λ x past e. later past (w.seals x past e);
-    number = w.number;
-    right = w.right;
-  }
-
--- ---- a header
-
-kept_place : (mark : Option FieldWord) (x : Here) (d : FieldWord) → x.state ≡ Tagged → place_word mark (record x { state = Kept }) d ≡ place_word mark x d
-kept_place mark x d e = rw e refl
-
-kept_target : (x : Here) → x.state ≡ Kept → TargetIs x x.state
-kept_target x e = rw e tt
-
-module _ (P : Protocol) (L : ProtocolLaws P) (c : Cycle) (s : Space) (w : AreObjects P c s) (a : ℕ) (makes : P.Makes Keep) (tagged : s.state a ≡ Tagged) where
-  abbrev k : Space
-  k = put_state s a Kept
-
-  keep_live : (x : ℕ) → IsLive (s.state x) → IsLive (k.state x)
-  keep_live x i = elim (set_cases s.state a x Kept) [ inl q ↦ rw q.1 tt | inr q ↦ rw q.1 i ]
-
-  pub keep_homes : (x : ℕ) → IsHome (s.state x) → IsHome (k.state x)
-  keep_homes x i = elim (set_cases s.state a x Kept) [ inl q ↦ rw q.1 tt | inr q ↦ rw q.1 i ]
-
-  keep_home : (x : ℕ) → IsHome (k.state x) → IsHome (s.state x)
-  keep_home x i = elim (set_cases s.state a x Kept) [ inl q ↦ rw (q.0, tagged) tt | inr q ↦ rw q.1 at i ]
-
-  keep_counts : (x : ℕ) → Counts c (s.state x) → Counts c (k.state x)
-  keep_counts x (inl e) = inl e
-  keep_counts x (inr h) = inr (keep_homes x h)
-
-  keep_uncounts : (x : ℕ) → Counts c (k.state x) → Counts c (s.state x)
-  keep_uncounts x (inl e) = inl e
-  keep_uncounts x (inr h) = inr (keep_home x h)
-
-  keep_sees : (x g : ℕ) → IsLive (s.state x) → g < s.len x → Sees P c s k x g
-  keep_sees x g i lt = elim (set_cases s.state a x Kept) [
-    | inl q ↦ record { event = Keep; here_is = rw q.1 refl; copy_is = inl refl; makes = makes; may = rw q.0 tagged; dated = tt; place = inl tt }
-    | inr q ↦ record { event = Quiet; here_is = rw q.1 refl; copy_is = inl refl; makes = L.shapes.makes_quiet; may = tt; dated = tt; place = inl tt }
-  ]
-
-  pub keep_seen : Seen P c s k
-  keep_seen = record { live = keep_live; counts = keep_counts; birth = λ x i. refl; len = λ x i. refl; colour = λ x i. refl; sees = keep_sees; grows = λ h i. i }
-
-  keep_place : (x g : ℕ) → place_word c.mark (here k x g) (copy_word k x g) ≡ place_word c.mark (here s x g) (copy_word s x g)
-  keep_place x g = elim (set_cases s.state a x Kept) [
-    | inl q ↦ rw q.1 (kept_place c.mark (here s x g) (copy_word s x g) (ap s.state q.0 ∙ tagged))
-    | inr q ↦ rw q.1 refl
-  ]
-
-  keep_copy : (x y : ℕ) (z : State) → z ≢ Tagged → IsCopy s x y z → IsCopy k x y z
-  keep_copy x y z n q = record { state = elim (set_cases s.state a y Kept) [ inl e ↦ absurd (n (sym q.state ∙ (ap s.state e.0 ∙ tagged))) | inr e ↦ e.1 ∙ q.state ]; birth = q.birth; len = q.len }
-
-  keep_of : (x : ℕ) (Q : State → Type 0) → (Q Kept → ⊥) → Q (k.state x) → Q (s.state x)
-  keep_of x Q n i = elim (set_cases s.state a x Kept) [ inl q ↦ absurd (n (rw q.1 at i)) | inr q ↦ rw q.1 at i ]
-
-  pub keep_back : (x : ℕ) → IsLive (k.state x) → IsLive (s.state x)
-  keep_back x i = elim (set_cases s.state a x Kept) [ inl q ↦ rw (q.0, tagged) tt | inr q ↦ rw q.1 at i ]
-
-  keep_on : (v : FieldWord) → On (Holds s) v → On (Holds k) v
-  keep_on v = on_goes (Holds s) (Holds k) (λ y x h. (h.0, keep_live x h.1)) v
-
-  keep_target : (x g : ℕ) → IsLive (k.state x) → TargetIs (here k x g) (k.state x)
-  keep_target x g i = elim (set_cases s.state a x Kept) [
-    | inl q ↦ kept_target (here k x g) q.1
-    | inr q ↦ rw q.1 (w.target x g (keep_back x i))
-  ]
-
-  pub keep_objects : AreObjects P c k
-  keep_objects = record {
-    placed = λ x g i lt. w.placed x g (keep_home x i) lt ∙ sym (keep_place x g);
-    agrees = λ x g i lt. w.agrees x g (keep_home x i) lt;
-    home = λ x i. w.home x (keep_home x i);
-    target = keep_target;
-    copied = λ x i. keep_copy x (s.to x) Plain (λ e. cc e) (w.copied x (keep_of x IsForward (λ e. e) i));
-    under = λ x i. keep_copy x (s.to x) Underway (λ e. cc e) (w.under x (keep_of x IsCarrying (λ e. e) i));
-    fields = λ x g i lt. keep_on (s.field x g) (w.fields x g (keep_home x i) lt);
-    words = λ x g i r lt. keep_on (s.word x g) (w.words x g (keep_back x i) (keep_uncounts x r) lt);
-    statuses = λ x g i r lt. keep_on (held (s.status x g)) (w.statuses x g (keep_back x i) (keep_uncounts x r) lt);
-    shape = λ x g i lt. shape_stays P L c s k w keep_seen x g (keep_back x i) lt;
-    seals = w.seals;
+    unsealed = w.unsealed;
     number = w.number;
     right = w.right;
   }

@@ -81,6 +81,7 @@ module _ (l : Sizes) where
         shape = λ a f live less. let table = laws.table in let cycle = laws.cycle in
             table.shapes.born c 1 f (here S a f) (copy_word S a f) (cycle.unmarked c mark clear) (record { state = only a live; seal = refl; status = refl }) refl;
         seals = λ a past is. absurd cc;
+        unsealed = λ a still. refl;
         right = let cycle = laws.cycle in cycle.unmarked c mark clear;
         number = subst (OnHand (λ b a. ⊥)) (sym mark) tt;
       }

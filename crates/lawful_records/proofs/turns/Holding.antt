@@ -40,6 +40,7 @@ module _ (P : Protocol) (c : Cycle) (s : Space) (k : ℕ) (x : RegionWord) where
     statuses = o.statuses;
     shape = o.shape;
     seals = o.seals;
+    unsealed = o.unsealed;
     right = o.right;
     number = o.number;
   }
