@@ -1,9 +1,14 @@
 pub mod After
+pub mod Begun
 pub mod Calls
 pub mod Found
 pub mod Frames
 pub mod Headers
+pub mod Laid
 pub mod Made
+pub mod MoveRows
+pub mod MoveStores
+pub mod Moves
 pub mod NoticeStores
 pub mod Opening
 pub mod Packed
@@ -13,4 +18,5 @@ pub mod Rows
 pub mod Sets
 pub mod Steps
 pub mod Stores
+pub mod Tags
 pub mod WideStores

@@ -7,11 +7,13 @@ pub mod Ending
 pub mod Events
 pub mod Exchanges
 pub mod FollowCauses
+pub mod JobLaws
 pub mod Kits
 pub mod KnownLaws
 pub mod Knowns
 pub mod MoveSteps
 pub mod MoveTurns
+pub mod MoveWords
 pub mod Moves
 pub mod NewObjectCauses
 pub mod NewObjects

@@ -50,7 +50,7 @@ module _ (P : Protocol) (L : ProtocolLaws P) (l : Sizes) (c : Cycle) (s : Space)
     objects = w;
     lens = lens;
     seen = same_seen P L c s;
-    move = λ k e. absurd (let gone : None ≡ Some k = sym (L.moves.looked j (Header_word (s.state j.from) (s.len j.from))) ∙ e in cc);
+    move = λ k e. absurd (let gone : None ≡ Some k = sym (L.moves.looked j (Header_word (s.state j.from) (s.colour j.from) (s.len j.from))) ∙ e in cc);
     ended = λ none. Was_left (λ a. record { state = refl; seal = refl; body = record { colour = refl; len = refl; birth = refl; to = refl; wide = refl } });
     history = refl;
     others = λ a n d. record { state = refl; seal = refl; body = record { colour = refl; len = refl; birth = refl; to = refl; wide = refl } };

@@ -20,11 +20,12 @@ use Rattle.barriers.specs.Spaces.{Space, Holds, here, copy_word}
 use Rattle.barriers.specs.Knowns.{Known, Checks, Loads_header, Keeps, Loads, Stores, Swaps, Loads_again, Loads_wide, Swaps_wide, Loads_late, Loads_address, Loads_copy, Stores_copy, Swaps_copy, Follows, Over, finds, at_field, spot_of, hand_of, step_of, word_followed, place_in}
 use Rattle.barriers.specs.Objects.{tagged_header}
 use Rattle.barriers.specs.Protocols.{OnHand}
+use Rattle.barriers.specs.JobLaws.{header_state}
 use Rattle.barriers.specs.Kits.{IsOf, IsHeaderWord, IsWordOf}
 use Rattle.barriers.specs.Rows.{Rows}
 use Rattle.barriers.specs.Says.{Notices, header_by, header_in, IsWritten, Says, IsAtWord}
 use Rattle.barriers.proofs.words.Rows.{row_area}
-use Rattle.barriers.proofs.words.Headers.{written_there, live_written, live_there, live_laid, header_state, header_colour, header_len, header_birth, place_of_home, place_of_forward}
+use Rattle.barriers.proofs.words.Headers.{home_there, written_there, live_written, live_there, live_laid, header_colour, header_len, header_birth, place_of_home, place_of_forward}
 
 module _ (l : Sizes) (m : ℕ → ℕ) (s : Space) (n : Notices) (rows : Rows l s.state s.len s.ends s.region) (says : Says l m s n) where
   -- the header at an address
@@ -33,9 +34,7 @@ module _ (l : Sizes) (m : ℕ → ℕ) (s : Space) (n : Notices) (rows : Rows l 
 
   -- the place of an object, read off the header at a link's address
   pub found_home : (a : ℕ) → IsHome (s.state a) → place_by (header_at (m a)) a ≡ a
-  found_home a h = let there = home_there (s.state a) h in place_of_home (s.colour a) (s.len a) (s.birth a) (s.state a) a (m a) h (says.objects.header_fits a there) (says.objects.header a there) where
-    home_there : (x : State) → IsHome x → x ≢ Absent
-    home_there x h e = grind (arith, h, e)
+  found_home a h = let there = home_there (s.state a) h in place_of_home (s.colour a) (s.len a) (s.birth a) (s.state a) a (m a) h (says.objects.header_fits a there) (says.objects.header a there)
 
   pub found_forward : (a to : ℕ) → s.state a ≡ Forward to → place_by (header_at (m a)) a ≡ to
   found_forward a to e =
@@ -59,7 +58,7 @@ module _ (l : Sizes) (m : ℕ → ℕ) (s : Space) (n : Notices) (rows : Rows l 
     said Dead y = absurd (cc y)
 
   -- the header of the object of a call, of which this is known before
-  header_word : (a : ℕ) (before : _) (birth : ℕ) → IsLive (s.state a) → s.birth a ≡ birth → IsOf before (header_in s a) → IsHeaderWord before birth (s.state a) (s.colour a) (s.len a) (m a)
+  pub header_word : (a : ℕ) (before : _) (birth : ℕ) → IsLive (s.state a) → s.birth a ≡ birth → IsOf before (header_in s a) → IsHeaderWord before birth (s.state a) (s.colour a) (s.len a) (m a)
   header_word a before birth live same of = let there = live_there (s.state a) live in record {
     header = header_in s a;
     fits = says.objects.header_fits a there;
@@ -128,7 +127,7 @@ module _ (l : Sizes) (m : ℕ → ℕ) (s : Space) (n : Notices) (rows : Rows l 
   pub header_inside : (a : ℕ) → IsLive (s.state a) → a < words_of l
   header_inside a live = let z = (row_area l s.state s.len s.ends s.region rows a 0 (live_there (s.state a) live) (omega arith)).1 in omega (arith, z)
 
-  word_inside : (a f : ℕ) → IsWritten (s.state a) → f < s.len a → a + 1 + f < words_of l
+  pub word_inside : (a f : ℕ) → IsWritten (s.state a) → f < s.len a → a + 1 + f < words_of l
   word_inside a f written lt = let z = (row_area l s.state s.len s.ends s.region rows a (1 + f) (written_there (s.state a) written) (omega (arith, lt))).1 in omega (arith, z)
 
   place_inside : (z : Spot) → IsLive (s.state z.at) → z ≡ spots.spot_of z.birth z.at z.field → z.field < s.len z.at → z.place < words_of l

@@ -4,8 +4,7 @@ use Rattle.object_headers.specs.declared.header.Colour.{Colour}
 use Rattle.object_headers.specs.Headers.{IsHeader, header_at}
 use Rattle.object_headers.specs.HeaderLaws.{header_at-word_of_header}
 use Rattle.handshakes.specs.Follows.{place_by}
-use Rattle.barriers.specs.States.{State, Absent, Plain, Kept, Tagged, Wide, Moving, Underway, Forward, Dead, IsHome, IsLive}
-use Rattle.barriers.specs.Kits.{state_in}
+use Rattle.barriers.specs.States.{State, Absent, Plain, Kept, Tagged, Wide, Moving, Underway, Forward, IsHome, IsLive}
 use Rattle.barriers.specs.Says.{header_by, head_word, IsWritten}
 
 pub written_there : (x : State) → IsWritten x → x ≢ Absent
@@ -17,22 +16,16 @@ live_written x h = grind (arith, h)
 pub live_there : (x : State) → IsLive x → x ≢ Absent
 live_there x h e = grind (arith, h, e)
 
+pub home_there : (x : State) → IsHome x → x ≢ Absent
+home_there x h e = grind (arith, h, e)
+
+pub home_live : (x : State) → IsHome x → IsLive x
+home_live x h = grind (arith, h)
+
 pub live_laid : (x : State) → IsLive x → x ≢ Underway
 live_laid x h e = grind (arith, h, e)
 
 module _ (c : Colour) (len birth : ℕ) where
-  -- it says the state, but of a copy under way
-  pub header_state : (x : State) → x ≢ Underway → state_in (header_by x c len birth) ≡ x
-  header_state Absent h = refl
-  header_state Plain h = refl
-  header_state Kept h = refl
-  header_state Tagged h = refl
-  header_state (Wide w) h = refl
-  header_state (Moving t) h = refl
-  header_state Underway h = absurd (h refl)
-  header_state (Forward t) h = refl
-  header_state Dead h = refl
-
   pub header_colour : (x : State) → x ≢ Absent → (let h = header_by x c len birth in h.colour) ≡ c
   header_colour x h = grind (arith, h)
 
@@ -45,6 +38,15 @@ module _ (c : Colour) (len birth : ℕ) where
   -- a new object's has a word, and Kept's where Tagged's has
   pub plain_fits : len ≤ 30 → 0 < birth → birth < 2 ^ 24 → IsHeader (header_by Plain c len birth)
   plain_fits few born low = record { len = few; birth = low; target = omega arith; state = (born, refl) }
+
+  -- an object has a birth number
+  pub home_born : (x : State) → IsHome x → IsHeader (header_by x c len birth) → (0 < birth) × (birth < 2 ^ 24)
+  home_born Plain h f = (f.state.0, f.birth)
+  home_born Kept h f = (f.state.0, f.birth)
+  home_born Tagged h f = (f.state.0, f.birth)
+  home_born (Wide w) h f = (f.state, f.birth)
+  home_born (Moving t) h f = (f.state, f.birth)
+  home_born x h f = absurd h
 
   pub kept_fits : IsHeader (header_by Tagged c len birth) → IsHeader (header_by Kept c len birth)
   kept_fits h = record { len = h.len; birth = h.birth; target = h.target; state = h.state }

@@ -37,13 +37,13 @@ use Rattle.barriers.proofs.words.Stores.{says_word, says_header}
 use Rattle.barriers.proofs.words.WideStores.{says_status}
 use Rattle.barriers.proofs.words.Found.{place_is, original, copied, widened}
 
-same_word_tells : (v w : FieldWord) → ((same_word v w ≡ true) × (v ≡ w)) ⊎ ((same_word v w ≡ false) × (v ≢ w))
+pub same_word_tells : (v w : FieldWord) → ((same_word v w ≡ true) × (v ≡ w)) ⊎ ((same_word v w ≡ false) × (v ≢ w))
 same_word_tells (Num i) (Num j) = grind (arith, nat_tests)
 same_word_tells (Num i) (Link b a) = inr (refl, λ e. cc e)
 same_word_tells (Link b a) (Num j) = inr (refl, λ e. cc e)
 same_word_tells (Link b a) (Link c d) = grind (arith, nat_tests)
 
-same_status_tells : (u v : Status) → ((same_status u v ≡ true) × (u ≡ v)) ⊎ ((same_status u v ≡ false) × (u ≢ v))
+pub same_status_tells : (u v : Status) → ((same_status u v ≡ true) × (u ≡ v)) ⊎ ((same_status u v ≡ false) × (u ≢ v))
 same_status_tells InOriginal InOriginal = inl (refl, refl)
 same_status_tells InOriginal (InWide w) = inr (refl, λ e. cc e)
 same_status_tells InOriginal (InCopy w) = inr (refl, λ e. cc e)
