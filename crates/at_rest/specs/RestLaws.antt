@@ -259,10 +259,10 @@ not_at_field c m x at head = grind (arith, at, head)
 pub rest_laws : ProtocolLaws at_rest
 rest_laws = record {
   calls = record {
-    begin = λ c side x s t live fits. tt;
-    begin_at = λ acked own s t. refl;
-    begin_task = λ acked own s t. refl;
-    begin_bare = λ acked own s t. refl;
+    begin = λ c side x cycle s t live fits. tt;
+    begin_at = λ acked cycle own s t. refl;
+    begin_task = λ acked cycle own s t. refl;
+    begin_bare = λ acked cycle own s t. refl;
     step = step;
     goes = rest_goes;
     bare = λ c side x y k bare own. rest_other c side x y k own;

@@ -15,8 +15,8 @@ use Rattle.barriers.specs.Protocols.{Protocol}
 
 -- ---- the machines
 
-abbrev pub rest_begins : Stance → Option FieldWord → Spot → Task → Known
-rest_begins acked own s t = Loads_header s t
+abbrev pub rest_begins : Stance → ℕ → Option FieldWord → Spot → Task → Known
+rest_begins acked cycle own s t = Loads_header s t
 
 abbrev pub rest_fed : Stance → Option FieldWord → Known → Finds → Known
 rest_fed acked own (Loads_header s t) (Header_word x colour len) = where_field s t len (to_original s t)

@@ -1,5 +1,5 @@
 -- What is known of a copier's machines, and the laws of that.
-use Rattle.std.specs.Prelude.{◌≡◌, ℕ, ◌≤◌, ◌<◌, ◌^◌, Bool, true, false, Option, Some, None}
+use Rattle.std.specs.Prelude.{◌≡◌, ◌≢◌, ℕ, ◌≤◌, ◌<◌, ◌^◌, Bool, true, false, Option, Some, None}
 use Rattle.call_steps.specs.declared.step.Step.{Step}
 use Rattle.call_steps.specs.declared.step.Step.TheVariants.{Ended}
 use Rattle.heap_words.specs.Layouts.{Sizes}
@@ -14,6 +14,7 @@ use Rattle.object_headers.specs.Headers.{IsHeader, word_of_header, header_at}
 use Rattle.wide_objects.specs.Statuses.{IsStatus, word_of_status}
 use Rattle.space_reclaim.specs.declared.move_job.MoveJob.{MoveJob}
 use Rattle.handshakes.specs.declared.pass_view.PassView.{PassView}
+use Rattle.handshakes.specs.PhaseWords.{phase_word_at}
 use Rattle.handshakes.specs.declared.follow.FollowMachine.{FollowMachine}
 use Rattle.handshakes.specs.Follows as follows
 use Rattle.barriers.specs.declared.spot.Spot.{Spot}
@@ -30,10 +31,10 @@ use Rattle.barriers.specs.declared.ends.TryRefusal.{TryRefusal}
 use Rattle.barriers.specs.declared.ends.TryRefusal.TheVariants as refusal
 use Rattle.barriers.specs.Spots as spots
 use Rattle.barriers.specs.States.{State, Absent, Plain, Kept, Tagged, Wide, Moving, Forward, Dead}
-use Rattle.barriers.specs.Stances.{Stance, stance_at, mark_in}
+use Rattle.barriers.specs.Stances.{Stance, Search, Copy, Fix, Free, stance_at, mark_in}
 use Rattle.barriers.specs.Spaces.{Here}
 use Rattle.barriers.specs.Values.{value_of}
-use Rattle.barriers.specs.Knowns.{Task, Reads, Writes, Exchanges, Ending, Got, Wrote, Done, Differs, Refused, Known, Follows, Over, Finds, Nothing, Phase_word, Header_word, Field_word, Wide_word, Address, at_field, spot_of, head_of, step_of, finds, looks, followed}
+use Rattle.barriers.specs.Knowns.{Task, Reads, Writes, Exchanges, Ending, Got, Wrote, Done, Differs, Refused, Known, Checks, Follows, Over, Finds, Nothing, Phase_word, Header_word, Field_word, Wide_word, Address, at_field, spot_of, head_of, step_of, finds, looks, followed}
 use Rattle.barriers.specs.Moves.{Carried, job_of, move_finds}
 use Rattle.barriers.specs.MoveSteps.{IsJob, FitsCarried, move_step, kept_after, move_said}
 use Rattle.barriers.specs.Protocols.{Protocol}
@@ -172,12 +173,30 @@ said_by said (Some end) = said end
 
 -- ---- the laws
 
--- a machine that stands where this is found, and this word
+-- the cycle that a phase word says
+abbrev pub cycle_at : ℕ → ℕ
+cycle_at word = let w = phase_word_at word in w.cycle
+
+-- Search, Copy, Fix or Free
+abbrev pub IsFromSearch : Stance → Type 0
+IsFromSearch Search = Unit {0}
+IsFromSearch Copy = Unit {0}
+IsFromSearch Fix = Unit {0}
+IsFromSearch Free = Unit {0}
+IsFromSearch _ = ⊥
+
+-- a phase word that it loads is of the cycle that its pass has acknowledged, and of a phase from the search on
+abbrev pub IsCurrent : PassView → Known → ℕ → Type 0
+IsCurrent v (Checks s t cycle) n = (cycle_at n ≡ cycle_at v.acked) × IsFromSearch (stance_at n)
+IsCurrent v k n = Unit {0}
+
+-- A machine that stands where this is found, and this word. A pass keeps its mark until the cycle's end is announced.
 pub record Stands {K : Type 0} (knows : K → Known) (For : PassView → K → Type 0) (v : PassView) (m : K) (p : Stance) (x : Here) (copy : FieldWord) (n : ℕ) : Type 0 where
   pub own : For v m
   pub spot : Spot
   pub at : at_field (knows m) ≡ Some spot
   pub word : IsWordOf (knows m) (finds p x copy (knows m)) n
+  pub current : v.mark ≢ 0 → IsCurrent v (knows m) n
 
 -- One kind of machine: it asks for the step that is known of it, and goes on as the table says; it follows what it found; and it ends with
 -- what is known.
@@ -211,7 +230,7 @@ module _ {R W E M : Type 0} (kit : Kit R W E M) (by : Stepping R W E M) where
 
   -- what a call is when it begins
   pub record Begins {K : Type 0} (knows : K → Known) (For : PassView → K → Type 0) (left : K → ℕ) (v : PassView) (s : Spot) (t : Task) (m : K) : Type 0 where
-    pub known : knows m ≡ P.begins (stance_at v.acked) (minded v) s t
+    pub known : knows m ≡ P.begins (stance_at v.acked) (cycle_at v.acked) (minded v) s t
     pub own : For v m
     pub few : left m ≤ 17
 

@@ -44,8 +44,8 @@ pub data Ending : Type 0 where
 
 -- Each case says which step comes next, on which word; n counts the tries that are left after this one.
 pub data Known : Type 0 where
-  -- loads the phase word: the word to write is the pass's mark
-  Checks : (s : Spot) (t : Task) → Known
+  -- loads the phase word: the word to write is the pass's mark, and its pass has acknowledged this cycle
+  Checks : (s : Spot) (t : Task) (cycle : ℕ) → Known
   -- loads the header
   Loads_header : (s : Spot) (t : Task) → Known
   -- exchanges the header, which it found Tagged, for Kept
@@ -54,8 +54,8 @@ pub data Known : Type 0 where
   Loads : (s : Spot) (t : Task) → Known
   Stores : (s : Spot) (word : FieldWord) → Known
   Swaps : (s : Spot) (t : Task) (x : FieldWord) (n : ℕ) → Known
-  -- found its pass's mark in the original, and loads the header again
-  Loads_again : (s : Spot) (t : Task) (n : ℕ) → Known
+  -- found its pass's mark in the original, where its exchange wanted x, and loads the header again
+  Loads_again : (s : Spot) (t : Task) (x : FieldWord) (n : ℕ) → Known
   -- loads, exchanges from x the wide word
   Loads_wide : (s : Spot) (t : Task) (wide : ℕ) → Known
   Swaps_wide : (s : Spot) (t : Task) (wide : ℕ) (x : Status) (n : ℕ) → Known
@@ -74,13 +74,13 @@ pub data Known : Type 0 where
 -- ---- the call
 
 abbrev pub spot_of : Known → Spot
-spot_of (Checks s t) = s
+spot_of (Checks s t cycle) = s
 spot_of (Loads_header s t) = s
 spot_of (Keeps s t tagged) = s
 spot_of (Loads s t) = s
 spot_of (Stores s word) = s
 spot_of (Swaps s t x n) = s
-spot_of (Loads_again s t n) = s
+spot_of (Loads_again s t x n) = s
 spot_of (Loads_wide s t wide) = s
 spot_of (Swaps_wide s t wide x n) = s
 spot_of (Loads_late s t wide) = s
@@ -92,13 +92,13 @@ spot_of (Follows s t m) = s
 spot_of (Over s t end) = s
 
 abbrev pub task_of : Known → Task
-task_of (Checks s t) = t
+task_of (Checks s t cycle) = t
 task_of (Loads_header s t) = t
 task_of (Keeps s t tagged) = t
 task_of (Loads s t) = t
 task_of (Stores s word) = Writes word
 task_of (Swaps s t x n) = t
-task_of (Loads_again s t n) = t
+task_of (Loads_again s t x n) = t
 task_of (Loads_wide s t wide) = t
 task_of (Swaps_wide s t wide x n) = t
 task_of (Loads_late s t wide) = t
@@ -123,7 +123,7 @@ at_field k = Some (spot_of k)
 
 -- it is at a field of which it has found that the object has it
 abbrev pub has_field : Known → Bool
-has_field (Checks s t) = false
+has_field (Checks s t cycle) = false
 has_field (Loads_header s t) = false
 has_field (Follows s t m) = false
 has_field (Over s t end) = false
@@ -203,13 +203,13 @@ abbrev pub place_in : ℕ → Spot → ℕ
 place_in at s = at + 1 + s.field
 
 abbrev pub step_of : Known → Step
-step_of (Checks s t) = Load phase_at
+step_of (Checks s t cycle) = Load phase_at
 step_of (Loads_header s t) = Load s.at
 step_of (Keeps s t tagged) = Exchange s.at (word_of_header tagged) (word_of_header (record tagged { state = states.Kept }))
 step_of (Loads s t) = Load s.place
 step_of (Stores s word) = Store s.place (word_of word)
 step_of (Swaps s t x n) = Exchange s.place (word_of x) (word_of (put_of t))
-step_of (Loads_again s t n) = Load s.at
+step_of (Loads_again s t x n) = Load s.at
 step_of (Loads_wide s t wide) = Load (place_in wide s)
 step_of (Swaps_wide s t wide x n) = Exchange (place_in wide s) (word_of_status x) (word_of_status (InWide (put_of t)))
 step_of (Loads_late s t wide) = Load s.place
@@ -232,12 +232,12 @@ pub data Finds : Type 0 where
 
 -- with this stance announced, at a field of which this is so, where the copy has this word
 abbrev pub finds : Stance → Here → FieldWord → Known → Finds
-finds p x copy (Checks s t) = Phase_word p
+finds p x copy (Checks s t cycle) = Phase_word p
 finds p x copy (Loads_header s t) = Header_word x.state x.colour x.len
 finds p x copy (Keeps s t tagged) = Header_word x.state x.colour x.len
 finds p x copy (Loads s t) = Field_word x.word
 finds p x copy (Swaps s t w n) = Field_word x.word
-finds p x copy (Loads_again s t n) = Header_word x.state x.colour x.len
+finds p x copy (Loads_again s t w n) = Header_word x.state x.colour x.len
 finds p x copy (Loads_wide s t wide) = Wide_word x.status
 finds p x copy (Swaps_wide s t wide u n) = Wide_word x.status
 finds p x copy (Loads_late s t wide) = Field_word x.word

@@ -119,10 +119,10 @@ pub record MoveEnd (P : Protocol) (c : Cycle) (h : List Call) (m : Carried) (g :
 
 pub record CallLaws (P : Protocol) : Type 0 where
   -- a call begins
-  pub begin : (c : Cycle) (side : Side) (x : Here) (s : Spot) (t : Task) → IsLive x.state → P.Fits c side → P.Own c side x (P.begins side.acked side.own s t)
-  pub begin_at : (acked : Stance) (own : Option FieldWord) (s : Spot) (t : Task) → at_field (P.begins acked own s t) ≡ Some s
-  pub begin_task : (acked : Stance) (own : Option FieldWord) (s : Spot) (t : Task) → task_of (P.begins acked own s t) ≡ t
-  pub begin_bare : (acked : Stance) (own : Option FieldWord) (s : Spot) (t : Task) → has_field (P.begins acked own s t) ≡ false
+  pub begin : (c : Cycle) (side : Side) (x : Here) (cycle : ℕ) (s : Spot) (t : Task) → IsLive x.state → P.Fits c side → P.Own c side x (P.begins side.acked cycle side.own s t)
+  pub begin_at : (acked : Stance) (cycle : ℕ) (own : Option FieldWord) (s : Spot) (t : Task) → at_field (P.begins acked cycle own s t) ≡ Some s
+  pub begin_task : (acked : Stance) (cycle : ℕ) (own : Option FieldWord) (s : Spot) (t : Task) → task_of (P.begins acked cycle own s t) ≡ t
+  pub begin_bare : (acked : Stance) (cycle : ℕ) (own : Option FieldWord) (s : Spot) (t : Task) → has_field (P.begins acked cycle own s t) ≡ false
   -- its own step
   pub step : (c : Cycle) (side : Side) (h : List Call) (s : Spot) (x : Here) (w : FieldWord) (k : Known) → ((past : List Call) → x.seal ≡ Some past → Before past h) → At P c side h s x w k → StepEnd P c side h s x k (finds c.phase x w k)
   pub goes : (c : Cycle) (side : Side) (x : Here) (k : Known) (s : Spot) (found : Finds) → at_field k ≡ Some s → P.Own c side x k → GoesOn P side.acked side.own k found

@@ -23,8 +23,9 @@ use Rattle.barriers.specs.Events.{Event}
 use Rattle.barriers.specs.Moves.{Carried}
 
 pub record Protocol : Type 1 where
-  -- how a call begins, by what its pass has acknowledged and by its mark, and how it goes on with what a step finds; the same of a move
-  pub begins : Stance → Option FieldWord → Spot → Task → Known
+  -- how a call begins, by what its pass has acknowledged, the phase and the cycle, and by its mark, and how it goes on with what a step finds; the
+  -- same of a move
+  pub begins : Stance → ℕ → Option FieldWord → Spot → Task → Known
   pub fed : Stance → Option FieldWord → Known → Finds → Known
   pub move_begins : MoveJob → Carried
   pub move_fed : Carried → Finds → Carried

@@ -1,5 +1,5 @@
 -- A call begins, by a link that holds.
-use Rattle.std.proofs.Common.{◌≡◌, ◌≢◌, sym, ap, ◌∙◌, true, false, Option, Some, None, List}
+use Rattle.std.proofs.Common.{◌≡◌, ◌≢◌, ℕ, sym, ap, ◌∙◌, true, false, Option, Some, None, List}
 use Rattle.object_headers.specs.declared.header.Header.{Header}
 use Rattle.heap_history.specs.declared.call.Call.{Call}
 use Rattle.barriers.specs.declared.spot.Spot.{Spot}
@@ -16,7 +16,7 @@ use Rattle.barriers.specs.Objects.{Counts, IsSide, IsCall}
 
 -- before it has found that the object has the field, a call has found out nothing
 bare_answered : (seen : List Call) (k : Known) (z : Spot) → at_field k ≡ Some z → has_field k ≡ false → Answered seen k
-bare_answered seen (Checks s t) z at bare = tt
+bare_answered seen (Checks s t cycle) z at bare = tt
 bare_answered seen (Loads_header s t) z at bare = tt
 bare_answered seen (Follows s t m) z at bare = absurd (let gone : None ≡ Some z = at in cc)
 bare_answered seen (Over s t end) z at bare = absurd (let gone : None ≡ Some z = at in cc)
@@ -44,20 +44,20 @@ pub record MayBegin (c : Cycle) (s : Space) (side : Side) (z : Spot) (t : Task) 
   pub counts : Counts c (s.state z.at)
   pub hand : OnHand (Holds s) (word_in t)
 
-pub call_begins : (P : Protocol) (L : ProtocolLaws P) (c : Cycle) (s : Space) (side : Side) (z : Spot) (t : Task) → IsSide P c s side → MayBegin c s side z t → IsCall P c s side (P.begins side.acked side.own z t)
-call_begins P L c s side z t o may =
-    let k = P.begins side.acked side.own z t in
-    let at : at_field k ≡ Some z = L.calls.begin_at side.acked side.own z t in
-    let bare : has_field k ≡ false = L.calls.begin_bare side.acked side.own z t in
+pub call_begins : (P : Protocol) (L : ProtocolLaws P) (c : Cycle) (s : Space) (side : Side) (cycle : ℕ) (z : Spot) (t : Task) → IsSide P c s side → MayBegin c s side z t → IsCall P c s side (P.begins side.acked cycle side.own z t)
+call_begins P L c s side cycle z t o may =
+    let k = P.begins side.acked cycle side.own z t in
+    let at : at_field k ≡ Some z = L.calls.begin_at side.acked cycle side.own z t in
+    let bare : has_field k ≡ false = L.calls.begin_bare side.acked cycle side.own z t in
     record {
       runs = may.runs;
       holds = λ y is. rw (same_spot y z (at_field k) at is) may.holds;
       place = λ y is. rw (same_spot y z (at_field k) at is) may.place;
       inside = λ y is has. absurd (let no_field : true ≡ false = sym has ∙ bare in cc);
       counts = λ y is. rw (same_spot y z (at_field k) at is) may.counts;
-      hand = rw ((hand_at k z at).0, L.calls.begin_task side.acked side.own z t) may.hand;
+      hand = rw ((hand_at k z at).0, L.calls.begin_task side.acked cycle side.own z t) may.hand;
       head = λ h is. absurd (bare_head k h bare is);
-      own = λ y is. rw (same_spot y z (at_field k) at is) (L.calls.begin c side (here s z.at z.field) z t may.holds.1 (o.fits may.runs));
+      own = λ y is. rw (same_spot y z (at_field k) at is) (L.calls.begin c side (here s z.at z.field) cycle z t may.holds.1 (o.fits may.runs));
       answered = bare_answered side.seen k z at bare;
       refused = λ y task len is. absurd (at_not_over k z y task (Refused (refusal.NoField len)) at is);
       made = λ is. absurd (at_unmade k z at is);

@@ -105,13 +105,13 @@ module _ (l : Sizes) (m : ℕ → ℕ) (s : Space) (n : Notices) (rows : Rows l 
   -- the word at a call's step is that of what it finds
   pub found_word : (p : Stance) (k : Known) → stance_at n.phase ≡ p → ((z : Spot) → at_field k ≡ Some z → IsAtWord s k)
       → IsWordOf k (finds p (here s (spot_of k).at (spot_of k).field) (copy_word s (spot_of k).at (spot_of k).field) k) (m (place_of (step_of k)))
-  found_word p (Checks z t) e at = ap stance_at says.notices.phase ∙ e
+  found_word p (Checks z t cycle) e at = ap stance_at says.notices.phase ∙ e
   found_word p (Loads_header z t) e at = let o = at z refl in header_word z.at None z.birth o.live o.birth tt
   found_word p (Keeps z t tagged) e at = let o = at z refl in header_word z.at (Some tagged) z.birth o.live o.birth (of_tagged z.at tagged o.live (o.head tagged refl))
   found_word p (Loads z t) e at = let o = at z refl in original z o.live o.place (o.inside refl)
   found_word p (Stores z word) e at = tt
   found_word p (Swaps z t x i) e at = let o = at z refl in original z o.live o.place (o.inside refl)
-  found_word p (Loads_again z t i) e at = let o = at z refl in header_word z.at None z.birth o.live o.birth tt
+  found_word p (Loads_again z t x i) e at = let o = at z refl in header_word z.at None z.birth o.live o.birth tt
   found_word p (Loads_wide z t w) e at = let o = at z refl in widened z w (o.wide w refl) (o.inside refl)
   found_word p (Swaps_wide z t w x i) e at = let o = at z refl in widened z w (o.wide w refl) (o.inside refl)
   found_word p (Loads_late z t w) e at = let o = at z refl in original z o.live o.place (o.inside refl)
@@ -148,13 +148,13 @@ module _ (l : Sizes) (m : ℕ → ℕ) (s : Space) (n : Notices) (rows : Rows l 
   wide_word_inside z w c lt = let q = wide_inside z w (1 + z.field) c (omega (arith, lt)) in omega (arith, q)
 
   pub step_inside : (k : Known) → ((z : Spot) → at_field k ≡ Some z → IsAtWord s k) → OnHand (Holds s) (hand_of k) → IsInside (words_of l) (step_of k)
-  step_inside (Checks z t) at hand = omega arith
+  step_inside (Checks z t cycle) at hand = omega arith
   step_inside (Loads_header z t) at hand = let o = at z refl in header_inside z.at o.live
   step_inside (Keeps z t tagged) at hand = let o = at z refl in header_inside z.at o.live
   step_inside (Loads z t) at hand = let o = at z refl in place_inside z o.live o.place (o.inside refl)
   step_inside (Stores z word) at hand = let o = at z refl in place_inside z o.live o.place (o.inside refl)
   step_inside (Swaps z t x i) at hand = let o = at z refl in place_inside z o.live o.place (o.inside refl)
-  step_inside (Loads_again z t i) at hand = let o = at z refl in header_inside z.at o.live
+  step_inside (Loads_again z t x i) at hand = let o = at z refl in header_inside z.at o.live
   step_inside (Loads_wide z t w) at hand = let o = at z refl in wide_word_inside z w (o.wide w refl) (o.inside refl)
   step_inside (Swaps_wide z t w x i) at hand = let o = at z refl in wide_word_inside z w (o.wide w refl) (o.inside refl)
   step_inside (Loads_late z t w) at hand = let o = at z refl in place_inside z o.live o.place (o.inside refl)

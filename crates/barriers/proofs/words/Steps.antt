@@ -153,7 +153,7 @@ module _ (l : Sizes) (m next : ℕ → ℕ) (s : Space) (n : Notices) (rows : Ro
 
   pub says_step : (p : Stance) (k : Known) → ((z : Spot) → at_field k ≡ Some z → IsAtWord s k) → IsPacked k → Put m next (place_of (step_of k)) (put_by (step_of k) (m (place_of (step_of k))))
       → Says l next (space_by s (spot_of k) h (event k (finds p (here s (spot_of k).at (spot_of k).field) (copy_word s (spot_of k).at (spot_of k).field) k))) n
-  says_step p (Checks z t) at packed put = unchanged (put_same m next _ _ put refl)
+  says_step p (Checks z t cycle) at packed put = unchanged (put_same m next _ _ put refl)
   says_step p (Loads_header z t) at packed put = unchanged (put_same m next _ _ put refl)
   says_step p (Keeps z t tagged) at packed put = let o = at z refl in keep z tagged o.live (o.head tagged refl) put
   says_step p (Loads z t) at packed put = unchanged (put_same m next _ _ put refl)
@@ -162,7 +162,7 @@ module _ (l : Sizes) (m next : ℕ → ℕ) (s : Space) (n : Notices) (rows : Ro
       let o = at z refl in
       swap z t packed.from.1 packed.task Write (put_event (Swaps z t x i)) (λ w. refl) refl z.place (s.word z.at z.field) x (original l m s n rows says z o.live o.place (o.inside refl)) packed.from.0
       (λ w. to_original z o.live (o.inside refl) w (place_is l m s n rows says z o.live o.place (o.inside refl))) put
-  says_step p (Loads_again z t i) at packed put = unchanged (put_same m next _ _ put refl)
+  says_step p (Loads_again z t x i) at packed put = unchanged (put_same m next _ _ put refl)
   says_step p (Loads_wide z t w) at packed put = unchanged (put_same m next _ _ put refl)
   says_step p (Swaps_wide z t w x i) at packed put =
       let o = at z refl in

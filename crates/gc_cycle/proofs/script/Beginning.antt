@@ -39,7 +39,7 @@ use Rattle.barriers.specs.declared.pass.PassMachine.TheVariants as machine
 use Rattle.barriers.specs.declared.room.Room.{Room}
 use Rattle.barriers.specs.declared.spot.Spot.{Spot}
 use Rattle.barriers.specs.Knowns.{Known, Over, Ending, Task, Reads, Writes, Exchanges, at_field, spot_of, task_of, call_of}
-use Rattle.barriers.specs.Kits.{Kit, Stepping, Laws, ending_of, said_by, own_of, read_said, write_said, exchange_said}
+use Rattle.barriers.specs.Kits.{Kit, Stepping, Laws, ending_of, said_by, own_of, cycle_at, read_said, write_said, exchange_said}
 use Rattle.barriers.specs.NewObjects.{new_of, by_fit, end_of}
 use Rattle.barriers.specs.PlainCallLaws.{spot_at}
 use Rattle.barriers.specs.Records.{ended_of, started, accessed, operand_word}
@@ -226,7 +226,8 @@ module _ {R W E M : Type 0} (kit : Kit R W E M) (by : Stepping R W E M) (laws : 
         let table = laws.table.calls in
         let spot = spots.spot_of birth address field in
         let acked = stance_at (let view = q.view in view.acked) in
-        let begun = begun_at kit.reads kit.read_ended read_said pass spot Reads m _ b.known (table.begin_at acked (own_of kit.minds q.view) spot Reads) (table.begin_task acked (own_of kit.minds q.view) spot Reads) (laws.reading.tells m) in
+        let cycle = cycle_at (let view = q.view in view.acked) in
+        let begun = begun_at kit.reads kit.read_ended read_said pass spot Reads m _ b.known (table.begin_at acked cycle (own_of kit.minds q.view) spot Reads) (table.begin_task acked cycle (own_of kit.minds q.view) spot Reads) (laws.reading.tells m) in
         let leads = link_is obj birth address link in
         next_is (commands.Get dst obj field) (machine.Read m) at (leads.0, begun.0 ∙ ap (λ n. calls.Read pass n field) (sym leads.1), begun.2) (ap (option_map (λ e. ends.Read e)) begun.1))
 
@@ -240,7 +241,8 @@ module _ {R W E M : Type 0} (kit : Kit R W E M) (by : Stepping R W E M) (laws : 
         let table = laws.table.calls in
         let spot = spots.spot_of birth address field in
         let acked = stance_at (let view = q.view in view.acked) in
-        let begun = begun_at kit.writes kit.write_ended write_said pass spot (Writes word) m _ b.known (table.begin_at acked (own_of kit.minds q.view) spot (Writes word)) (table.begin_task acked (own_of kit.minds q.view) spot (Writes word)) (laws.writing.tells m) in
+        let cycle = cycle_at (let view = q.view in view.acked) in
+        let begun = begun_at kit.writes kit.write_ended write_said pass spot (Writes word) m _ b.known (table.begin_at acked cycle (own_of kit.minds q.view) spot (Writes word)) (table.begin_task acked cycle (own_of kit.minds q.view) spot (Writes word)) (laws.writing.tells m) in
         let leads = link_is obj birth address link in
         next_is (commands.Put obj field what) (machine.Write m) at (leads.0, begun.0 ∙ ap (λ n. calls.Write pass n field (value_of word)) (sym leads.1), begun.2) (ap (option_map (λ e. ends.Write e)) begun.1))
 
@@ -255,8 +257,9 @@ module _ {R W E M : Type 0} (kit : Kit R W E M) (by : Stepping R W E M) (laws : 
         let table = laws.table.calls in
         let spot = spots.spot_of birth address field in
         let acked = stance_at (let view = q.view in view.acked) in
+        let cycle = cycle_at (let view = q.view in view.acked) in
         let task = Exchanges (value_of wanted) word in
-        let begun = begun_at kit.exchanges kit.exchange_ended exchange_said pass spot task m _ b.known (table.begin_at acked (own_of kit.minds q.view) spot task) (table.begin_task acked (own_of kit.minds q.view) spot task) (laws.exchanging.tells m) in
+        let begun = begun_at kit.exchanges kit.exchange_ended exchange_said pass spot task m _ b.known (table.begin_at acked cycle (own_of kit.minds q.view) spot task) (table.begin_task acked cycle (own_of kit.minds q.view) spot task) (laws.exchanging.tells m) in
         let leads = link_is obj birth address link in
         next_is (commands.Cas dst obj field expected what) (machine.Exchange m) at (leads.0, begun.0 ∙ ap (λ n. calls.Exchange pass n field (value_of wanted) (value_of word)) (sym leads.1), begun.2) (ap (option_map (λ e. ends.Exchange e)) begun.1))
 

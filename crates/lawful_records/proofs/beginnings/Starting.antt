@@ -32,7 +32,7 @@ use Rattle.barriers.specs.Cycles.{Cycle}
 use Rattle.barriers.specs.Objects.{IsCall}
 use Rattle.barriers.specs.Knowns.{Known, Task, Reads, Writes, Exchanges, task_of, word_in}
 use Rattle.barriers.specs.Protocols.{OnHand}
-use Rattle.barriers.specs.Kits.{Kit, Stepping, Laws, own_of}
+use Rattle.barriers.specs.Kits.{Kit, Stepping, Laws, own_of, cycle_at}
 use Rattle.barriers.specs.Records.{operand_word, Fits, machine_for}
 use Rattle.barriers.proofs.objects.Begins.{call_begins}
 use Rattle.lawful_records.specs.LawfulRecords.{IsAcked, IsMachine, IsUnborn, IsPassRecord, IsWriting, IsExchanging}
@@ -66,15 +66,15 @@ module _ {R W E M : Type 0} (kit : Kit R W E M) (by : Stepping R W E M) (laws : 
 
   -- of the object to which a link leads that holds
   call_is : (birth at field : ℕ) (t : Task) → Holds s birth at → OnHand (Holds s) (word_in t)
-      → IsCall kit.protocol c s (side_at kit p.pass.view p.seen) (kit.protocol.begins (stance_at p.pass.view.acked) (own_of kit.minds p.pass.view) (spots.spot_of birth at field) t)
-  call_is birth at field t link hand = call_begins kit.protocol laws.table c s (side_at kit p.pass.view p.seen) (spots.spot_of birth at field) t holds.side
+      → IsCall kit.protocol c s (side_at kit p.pass.view p.seen) (kit.protocol.begins (stance_at p.pass.view.acked) (cycle_at p.pass.view.acked) (own_of kit.minds p.pass.view) (spots.spot_of birth at field) t)
+  call_is birth at field t link hand = call_begins kit.protocol laws.table c s (side_at kit p.pass.view p.seen) (cycle_at p.pass.view.acked) (spots.spot_of birth at field) t holds.side
       (record { runs = runs; holds = link; place = refl; counts = inl late; hand = hand })
 
-  called : (k : Known) (birth at field : ℕ) (t : Task) → k ≡ kit.protocol.begins (stance_at p.pass.view.acked) (own_of kit.minds p.pass.view) (spots.spot_of birth at field) t → Holds s birth at → OnHand (Holds s) (word_in t)
+  called : (k : Known) (birth at field : ℕ) (t : Task) → k ≡ kit.protocol.begins (stance_at p.pass.view.acked) (cycle_at p.pass.view.acked) (own_of kit.minds p.pass.view) (spots.spot_of birth at field) t → Holds s birth at → OnHand (Holds s) (word_in t)
       → IsCall kit.protocol c s (side_at kit p.pass.view p.seen) k × (task_of k ≡ t)
   called k birth at field t is link hand = let table = laws.table in (
     subst (IsCall kit.protocol c s (side_at kit p.pass.view p.seen)) (sym is) (call_is birth at field t link hand),
-    ap task_of is ∙ table.calls.begin_task (stance_at p.pass.view.acked) (own_of kit.minds p.pass.view) (spots.spot_of birth at field) t,
+    ap task_of is ∙ table.calls.begin_task (stance_at p.pass.view.acked) (cycle_at p.pass.view.acked) (own_of kit.minds p.pass.view) (spots.spot_of birth at field) t,
   )
 
   -- the link in a register

@@ -42,6 +42,7 @@ module _ {R W E M : Type 0} (kit : Kit R W E M) where
     pub call : IsCall kit.protocol c s (side_at kit v seen) k
     pub packed : IsPacked k
     pub unmarked : own_of kit.minds v ≡ None
+    pub no_mark : v.mark ≡ 0
     pub met : HasSpot seen k
 
   -- By its step, with this change or this look at an object with this seal, the space becomes t, which the words say then; the call goes on

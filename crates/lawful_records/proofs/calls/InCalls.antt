@@ -104,6 +104,7 @@ module _ {R W E M : Type 0} (kit : Kit R W E M) where
       call = call;
       packed = packed;
       unmarked = own_none kit.minds p.pass.view held.unmarked;
+      no_mark = held.unmarked;
       met = rw was.known at stood.call;
     }
 

@@ -70,7 +70,7 @@ module _ {R W E M K End : Type 0} (kit : Kit R W E M) (table : ProtocolLaws kit.
 
       at_its_field : at_field k ≡ Some (spot_of k) → MachineGoes after change
       at_its_field at =
-          let stood : Stands knows For v m c.phase (here s (spot_of k).at (spot_of k).field) (copy_word s (spot_of k).at (spot_of k).field) found = record { own = own; spot = spot_of k; at = at; word = word } in
+          let stood : Stands knows For v m c.phase (here s (spot_of k).at (spot_of k).field) (copy_word s (spot_of k).at (spot_of k).field) found = record { own = own; spot = spot_of k; at = at; word = word; current = λ marked. absurd (marked stands.no_mark) } in
           let on = runs.goes v m c.phase (here s (spot_of k).at (spot_of k).field) (copy_word s (spot_of k).at (spot_of k).field) found stood in
           let looks = runs.looks_alike v m c.phase (here s (spot_of k).at (spot_of k).field) (copy_word s (spot_of k).at (spot_of k).field) found stood in
           let gone = field_goes kit table l c s n memory v seen k stands (spot_of k) at after step_put (knows (fed m found)) on.0 change change_is (fronts m found) looks in

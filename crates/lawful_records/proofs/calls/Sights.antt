@@ -106,7 +106,7 @@ module _ {R W E M K End : Type 0} (kit : Kit R W E M) (table : ProtocolLaws kit.
       by_standing : Standing k → front (fronts m found) seal h seen ≡ front (fronts m found) (s.seal (let z = spot_of k in z.at)) h seen
       by_standing (At at) =
           let word = subst (λ (step : Step). IsWordOf k (found_in c s k) (memory (place_of step))) (sym asks_is) (its_word_found kit table l c s n memory v seen k stands) in
-          let stood : Stands knows For v m c.phase (here s (spot_of k).at (spot_of k).field) (copy_word s (spot_of k).at (spot_of k).field) found = record { own = own; spot = spot_of k; at = at; word = word } in
+          let stood : Stands knows For v m c.phase (here s (spot_of k).at (spot_of k).field) (copy_word s (spot_of k).at (spot_of k).field) found = record { own = own; spot = spot_of k; at = at; word = word; current = λ marked. absurd (marked stands.no_mark) } in
           rw (runs.looks_alike v m c.phase (here s (spot_of k).at (spot_of k).field) (copy_word s (spot_of k).at (spot_of k).field) found stood)
           (looks_alike seal (s.seal (let z = spot_of k in z.at)) h seen (own_of kit.minds v) k (found_in c s k) (loads_there seal is))
       by_standing (Leads f leads) = rw (runs.follows_on v m (spot_of k) (task_of k) f found own leads).2 refl

@@ -34,7 +34,7 @@ use Rattle.barriers.specs.Values.{value_of}
 use Rattle.barriers.specs.Knowns.{Known, Task, Reads, Writes, Exchanges, Follows, Over, at_field, has_found, task_of, word_in}
 use Rattle.barriers.specs.PlainCallLaws.{spot_at, hand_at}
 use Rattle.barriers.specs.Protocols.{OnHand}
-use Rattle.barriers.specs.Kits.{Kit, Stepping, Laws, own_of}
+use Rattle.barriers.specs.Kits.{Kit, Stepping, Laws, own_of, cycle_at}
 use Rattle.barriers.specs.Records.{operand_word, IsOperand, Fits, accessed, machine_for}
 use Rattle.lawful_records.specs.Beginnings.{call_ended, ended_call}
 use Rattle.lawful_records.specs.Meetings.{IsThere, IsNamed, FitsHand, HasSpot, HasSpotOf, HasMade, HasMet}
@@ -109,8 +109,8 @@ module _ {R W E M : Type 0} (kit : Kit R W E M) (by : Stepping R W E M) (laws : 
   operand_packed (operands.Reg register) fits packed = packed register
 
   -- what a call that begins so knows
-  begun_at : (k : Known) (acked : Stance) (own : Option FieldWord) (s : Spot) (t : Task) → k ≡ kit.protocol.begins acked own s t → (at_field k ≡ Some s) × (task_of k ≡ t)
-  begun_at k acked own s t is = let table = laws.table in (ap at_field is ∙ table.calls.begin_at acked own s t, ap task_of is ∙ table.calls.begin_task acked own s t)
+  begun_at : (k : Known) (acked : Stance) (cycle : ℕ) (own : Option FieldWord) (s : Spot) (t : Task) → k ≡ kit.protocol.begins acked cycle own s t → (at_field k ≡ Some s) × (task_of k ≡ t)
+  begun_at k acked cycle own s t is = let table = laws.table in (ap at_field is ∙ table.calls.begin_at acked cycle own s t, ap task_of is ∙ table.calls.begin_task acked cycle own s t)
 
   new_begun : (m : NewMachine) → IsUnmade m → HasBegun (machine.New m)
   new_begun (make.Ended (new_end.Made birth at room)) unmade = absurd unmade
@@ -129,7 +129,7 @@ module _ {R W E M : Type 0} (kit : Kit R W E M) (by : Stepping R W E M) (laws : 
       let view = p.pass.view in
       let z : Spot = spots.spot_of birth at field in
       let k : Known = kit.reads (kit.starts_read l view birth at field) in
-      let so = begun_at k (stance_at view.acked) (own_of kit.minds view) z Reads (laws.begins_read l view birth at field).known in
+      let so = begun_at k (stance_at view.acked) (cycle_at view.acked) (own_of kit.minds view) z Reads (laws.begins_read l view birth at field).known in
       record { view = refl; registers = refl; ends = at_ends k z view.pass (length p.seen) so.0; call = at_met p.seen k z Reads so.0 so.1 there tt tt; made = tt }
 
   write_begun : (birth at field : ℕ) (word : FieldWord) → IsFieldWord word → IsNamed p.seen word → IsThere p.seen birth → HasBegun (machine.Write (kit.starts_write l p.pass.view birth at field (word_of word)))
@@ -137,7 +137,7 @@ module _ {R W E M : Type 0} (kit : Kit R W E M) (by : Stepping R W E M) (laws : 
       let view = p.pass.view in
       let z : Spot = spots.spot_of birth at field in
       let k : Known = kit.writes (kit.starts_write l view birth at field (word_of word)) in
-      let so = begun_at k (stance_at view.acked) (own_of kit.minds view) z (Writes word) (laws.begins_write l view birth at field word packed).known in
+      let so = begun_at k (stance_at view.acked) (cycle_at view.acked) (own_of kit.minds view) z (Writes word) (laws.begins_write l view birth at field word packed).known in
       record { view = refl; registers = refl; ends = at_ends k z view.pass (length p.seen) so.0; call = at_met p.seen k z (Writes word) so.0 so.1 there named packed; made = tt }
 
   exchange_begun : (birth at field : ℕ) (expected word : FieldWord) → IsFieldWord word → IsNamed p.seen word → IsThere p.seen birth → HasBegun (machine.Exchange (kit.starts_exchange l p.pass.view birth at field expected (word_of word)))
@@ -146,7 +146,7 @@ module _ {R W E M : Type 0} (kit : Kit R W E M) (by : Stepping R W E M) (laws : 
       let z : Spot = spots.spot_of birth at field in
       let t : Task = Exchanges (value_of expected) word in
       let k : Known = kit.exchanges (kit.starts_exchange l view birth at field expected (word_of word)) in
-      let so = begun_at k (stance_at view.acked) (own_of kit.minds view) z t (laws.begins_exchange l view birth at field expected word packed).known in
+      let so = begun_at k (stance_at view.acked) (cycle_at view.acked) (own_of kit.minds view) z t (laws.begins_exchange l view birth at field expected word packed).known in
       record { view = refl; registers = refl; ends = at_ends k z view.pass (length p.seen) so.0; call = at_met p.seen k z t so.0 so.1 there named packed; made = tt }
 
   -- what is asked of the pass has begun
