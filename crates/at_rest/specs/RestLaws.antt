@@ -1,5 +1,5 @@
 -- The laws of objects at rest.
-use Rattle.std.proofs.Common.{◌≡◌, ◌≢◌, ℕ, ◌<◌, ◌≤◌, inl, refl, sym, ap, ◌∙◌, arith, true, false, Option, Some, None, List}
+use Rattle.std.proofs.Common.{◌≡◌, ◌≢◌, ℕ, ◌<◌, ◌≤◌, refl, sym, ap, ◌∙◌, arith, true, false, Option, Some, None, List}
 use Rattle.heap_words.specs.declared.field_word.FieldWord.{FieldWord}
 use Rattle.object_headers.specs.declared.header.Header.{Header}
 use Rattle.wide_objects.specs.Statuses.{InOriginal}
@@ -294,7 +294,6 @@ rest_laws = record {
     head = λ c h m j g x y job same head. tt;
     job = λ c m j k y job head is. absurd (let gone : None ≡ Some k = is in cc);
     inside = λ c m j x job at head. absurd (not_at_field c m x at head);
-    first = λ j. inl refl;
     looked = λ j found. refl;
     begins = λ m found j is. absurd (let gone : Idles ≡ Lays j = is in cc);
     still = λ c j x head. absurd head;

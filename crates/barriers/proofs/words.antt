@@ -6,8 +6,10 @@ pub mod Frames
 pub mod Headers
 pub mod Laid
 pub mod Made
+pub mod MoveFrames
 pub mod MoveRows
 pub mod MoveStores
+pub mod Movers
 pub mod Moves
 pub mod NoticeStores
 pub mod Opening
@@ -16,6 +18,8 @@ pub mod RegionStores
 pub mod Regions
 pub mod Rows
 pub mod Sets
+pub mod SpareCalls
+pub mod Spares
 pub mod Steps
 pub mod Stores
 pub mod Tags

@@ -57,11 +57,11 @@ module _ (j : MoveJob) (colour : Colour) (is : j.header ≡ head_word Plain colo
   found_word x c len n word =
       let h = word.header in
       let same : header_by x (let g = header_at j.header in g.colour) j.len j.birth ≡ h =
-          ap (λ c. header_by x c j.len j.birth) (sym word.of.0)
-          ∙ (ap (λ i. header_by x (let g = h in g.colour) i j.birth) (sym (word.of.2 ∙ ap (λ (g : Header). g.len) job_header))
-          ∙ (ap (λ i. header_by x (let g = h in g.colour) (let g = h in g.len) i) (sym (word.of.1 ∙ ap (λ (g : Header). g.birth) job_header))
-          ∙ (ap (λ y. header_by y (let g = h in g.colour) (let g = h in g.len) (let g = h in g.birth)) (sym word.state)
-          ∙ header_by-state_in h word.fits))) in
+      ap (λ c. header_by x c j.len j.birth) (sym word.of.0)
+      ∙ (ap (λ i. header_by x (let g = h in g.colour) i j.birth) (sym (word.of.2 ∙ ap (λ (g : Header). g.len) job_header))
+      ∙ (ap (λ i. header_by x (let g = h in g.colour) (let g = h in g.len) i) (sym (word.of.1 ∙ ap (λ (g : Header). g.birth) job_header))
+      ∙ (ap (λ y. header_by y (let g = h in g.colour) (let g = h in g.len) (let g = h in g.birth)) (sym word.state)
+      ∙ header_by-state_in h word.fits))) in
       word.word ∙ ap word_of_header (sym same)
 
   -- it is the word of another state only where it is that state

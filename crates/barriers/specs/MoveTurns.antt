@@ -1,5 +1,5 @@
 -- What a step of a mover comes to, and when a move may begin.
-use Rattle.std.specs.Prelude.{◌≡◌, ◌≢◌, ℕ, true, List, Some, None}
+use Rattle.std.specs.Prelude.{◌≡◌, ◌≢◌, ℕ, ◌⊎◌, true, List, Some, None}
 use Rattle.heap_words.specs.Layouts.{Sizes}
 use Rattle.object_headers.specs.Headers.{word_of_header}
 use Rattle.space_reclaim.specs.declared.move_job.MoveJob.{MoveJob}
@@ -7,7 +7,7 @@ use Rattle.heap_history.specs.declared.call.Call.{Call}
 use Rattle.barriers.specs.States.{Absent, Plain, Kept, Forward, Dead, IsHome, IsLive}
 use Rattle.barriers.specs.Spaces.{Space, here}
 use Rattle.barriers.specs.Cycles.{Cycle}
-use Rattle.barriers.specs.Moves.{Carried, job_of, field_of, move_finds}
+use Rattle.barriers.specs.Moves.{Carried, Looks, Lays, job_of, field_of, move_finds}
 use Rattle.barriers.specs.Protocols.{Protocol}
 use Rattle.barriers.specs.Objects.{IsForward, HasLens, AreObjects, IsMove, planned_header}
 use Rattle.barriers.specs.CallTurns.{Seen}
@@ -37,10 +37,14 @@ pub data IsEnd (s t : Space) (j : MoveJob) : Type 0 where
   Was_kept : t.state j.from ≡ Kept → t.state j.to ≡ Dead → IsEnd s t j
   Has_gone : t.state j.from ≡ Forward j.to → t.state j.to ≡ Plain → IsEnd s t j
 
+-- a mover begins by a look, or by the store of the copy's header
+abbrev pub IsFirst : MoveJob → Carried → Type 0
+IsFirst j m = (m ≡ Looks j) ⊎ (m ≡ Lays j)
+
 module _ (P : Protocol) where
-  -- A step by which a mover with this job makes t of the space s, and is then `next`: what holds of the objects holds after it, and all others
-  -- see it. The mover goes on with the job, or has ended with it. Nothing happens in the heap; what the job does not name stays as it was; and
-  -- a seal stays what it is.
+  -- A step by which a mover with this job makes t of the space s, and is then `next`: what holds of the objects holds after it, and all
+  -- others see it. The mover goes on with the job, or has ended with it. Nothing happens in the heap; what the job does not name stays as
+  -- it was; and a seal stays what it is.
   pub record MovesTo (c : Cycle) (s t : Space) (next : Carried) (j : MoveJob) : Type 0 where
     pub objects : AreObjects P c t
     pub lens : HasLens t
@@ -61,8 +65,9 @@ module _ (P : Protocol) where
     pub seen : Seen P c s t
     pub homes : (a : ℕ) → IsHome (s.state a) → IsHome (t.state a)
 
-  -- a move of a home may begin, to where nothing is
-  pub record CanMove (c : Cycle) (s : Space) (j : MoveJob) : Type 0 where
+  -- a mover may begin to move a home, to where nothing is
+  pub record CanMove (c : Cycle) (s : Space) (m : Carried) (j : MoveJob) : Type 0 where
+    pub first : IsFirst j m
     pub late : c.late ≡ true
     pub live : IsHome (s.state j.from)
     pub len : s.len j.from ≡ j.len
@@ -71,4 +76,4 @@ module _ (P : Protocol) where
     pub absent : s.state j.to ≡ Absent
     -- it is no copy itself
     pub apart : (a : ℕ) → IsForward (s.state a) → s.to a ≢ j.from
-    pub head : P.MoveHead c (P.move_begins j) (here s j.from 0)
+    pub head : P.MoveHead c m (here s j.from 0)

@@ -79,3 +79,17 @@ pub record IsMoverAt (l : Sizes) (kind : Kind) (mark : Option FieldWord) (memory
 -- of each job that it has, which is one at most
 abbrev pub StandsRight : Sizes → Kind → Option FieldWord → (ℕ → ℕ) → Space → Carried → Type 0
 StandsRight l kind mark memory s m = (j : MoveJob) → job_of m ≡ Some j → IsMoverAt l kind mark memory s m j
+
+-- ---- the rest of the wide area
+
+-- a word of no wide object; and all such words of the wide area are 0
+abbrev pub IsUnused : Space → ℕ → Type 0
+IsUnused s x = (a : ℕ) → s.wide a ≢ 0 → (x < s.wide a) ⊎ (s.wide a + s.len a < x)
+
+abbrev pub IsSpare : Sizes → (ℕ → ℕ) → Space → Type 0
+IsSpare l memory s = (x : ℕ) → wide_at l ≤ x → x < wide_at l + l.wide → IsUnused s x → memory x ≡ 0
+
+-- before the copy's header is stored neither address has a wide object
+abbrev pub IsNarrow : Space → Carried → Type 0
+IsNarrow s (Lays j) = (s.wide j.from ≡ 0) × (s.wide j.to ≡ 0)
+IsNarrow s m = Unit {0}

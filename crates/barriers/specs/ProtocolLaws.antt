@@ -157,10 +157,6 @@ pub record TurnLaws (P : Protocol) : Type 0 where
 
 -- ---- moves
 
--- a mover begins by a look, or by the store of the copy's header
-abbrev pub IsFirst : MoveJob → Carried → Type 0
-IsFirst j m = (m ≡ Looks j) ⊎ (m ≡ Lays j)
-
 -- the exchange of the header that its mover makes now sends the object to its copy
 abbrev pub IsLeaving : State → Type 0
 IsLeaving Tagged = Unit {0}
@@ -187,17 +183,16 @@ pub record MoveLaws (P : Protocol) : Type 0 where
       → P.Shape c b g x w → P.MoveHead c m y → P.MoveField c m g x w → MoveEnd P c h m g x w (move_finds y m)
   pub head : (c : Cycle) (h : List Call) (m : Carried) (j : MoveJob) (g : ℕ) (x y : Here) → job_of m ≡ Some j → SameHead x y → P.MoveHead c m y → P.MoveHead c (P.move_fed m (move_finds y m)) (after (move_event c.mark h m g x) x)
   pub job : (c : Cycle) (m : Carried) (j k : MoveJob) (y : Here) → job_of m ≡ Some j → P.MoveHead c m y → job_of (P.move_fed m (move_finds y m)) ≡ Some k → k ≡ j
+  pub ends : (c : Cycle) (m : Carried) (j : MoveJob) (x : Here) → job_of m ≡ Some j → P.MoveHead c m x → job_of (P.move_fed m (move_finds x m)) ≡ None → MayEnd m x.state
   -- the field that it is at is one of the object's
   pub inside : (c : Cycle) (m : Carried) (j : MoveJob) (x : Here) → job_of m ≡ Some j → IsAtField m → P.MoveHead c m x → field_of m < j.len
   -- how a move begins and ends
-  pub first : (j : MoveJob) → IsFirst j (P.move_begins j)
   pub looked : (j : MoveJob) (found : Finds) → job_of (P.move_fed (Looks j) found) ≡ None
   pub begins : (m : Carried) (found : Finds) (j : MoveJob) → P.move_fed m found ≡ Lays j → ⊥
   pub still : (c : Cycle) (j : MoveJob) (x : Here) → P.MoveHead c (Lays j) x → IsStill x.state
   pub gives_up : (c : Cycle) (j : MoveJob) (x : Here) → P.MoveHead c (Gives_up j) x → x.state ≡ Kept
   pub given_up : (j : MoveJob) (found : Finds) → job_of (P.move_fed (Gives_up j) found) ≡ None
   pub forwarded : (c : Cycle) (j : MoveJob) (x : Here) → P.MoveHead c (Forwards j) x → (x.state ≡ Kept) ⊎ (job_of (P.move_fed (Forwards j) (Header_word x.state x.colour x.len)) ≡ None)
-  pub ends : (c : Cycle) (m : Carried) (j : MoveJob) (x : Here) → job_of m ≡ Some j → P.MoveHead c m x → job_of (P.move_fed m (move_finds x m)) ≡ None → MayEnd m x.state
 
 pub record ProtocolLaws (P : Protocol) : Type 0 where
   pub calls : CallLaws P

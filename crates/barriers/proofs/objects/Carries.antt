@@ -70,14 +70,14 @@ module _ (P : Protocol) where
 
     -- with any word for the copy at which the copier's parts hold
     pub move_end_at : (g : ℕ) (d v : FieldWord) → g < j.len → (g ≡ field_of m → d ≡ v) → P.Shape c (s.birth j.from) g (here s j.from g) d → P.MoveField c m g (here s j.from g) d → MoveEnd P c s.history m g (here s j.from g) d (move_finds y m)
-    move_end_at g d v lt e shape field = L.moves.step c s.history m j g (s.birth j.from) (here s j.from g) y d v job lt (same_head s j.from g (field_of m)) (λ q. (ap (here s j.from) q, e q)) shape head_here field
+    move_end_at g d v lt e shape field = L.moves.step c s.history m j g (s.birth j.from) (here s j.from g) y d v job lt (same_head (here s j.from g) y.word y.status) (λ q. (ap (here s j.from) q, e q)) shape head_here field
 
     pub move_end : (g : ℕ) → g < j.len → MoveEnd P c s.history m g (here s j.from g) (copy_word s j.from g) (move_finds y m)
     move_end g lt = move_end_at g (copy_word s j.from g) (copy_word s j.from (field_of m)) lt (λ q. ap (copy_word s j.from) q) (w.shape j.from g from_live (in_object g lt)) (o.field g lt)
 
     -- what is known of the header after it
     pub head_after : P.MoveHead c next (after (event 0) (here s j.from 0))
-    head_after = L.moves.head c s.history m j 0 (here s j.from 0) y job (same_head s j.from 0 (field_of m)) head_here
+    head_after = L.moves.head c s.history m j 0 (here s j.from 0) y job (same_head (here s j.from 0) y.word y.status) head_here
 
     pub job_after : (k : MoveJob) → job_of next ≡ Some k → k ≡ j
     job_after k e = L.moves.job c m j k y job head_here e

@@ -31,7 +31,7 @@ use Rattle.barriers.specs.MoveTurns.{SameBody}
 use Rattle.barriers.proofs.words.Sets.{set_here, set_else}
 use Rattle.barriers.proofs.objects.Base.{number_tells, on_goes, home_live, forward_live, carrying_home, copied_state, place_apart, place_cong, plain_place}
 use Rattle.barriers.proofs.objects.Seen.{holds_goes, shape_stays}
-use Rattle.barriers.proofs.objects.MoveStays.{copy_goes, laid_goes, field_goes}
+use Rattle.barriers.proofs.objects.MoveStays.{copy_goes, laid_goes, move_goes, field_goes}
 
 pub live_absent : (x : State) → IsLive x → x ≡ Absent → ⊥
 live_absent x i e = grind (arith, i, e)
@@ -224,14 +224,10 @@ module _ (P : Protocol) (L : ProtocolLaws P) (c : Cycle) (s : Space) (w : AreObj
     copy_stays k g = row s.word (s.to j.from) g (λ f. Num 0) (λ e. to_a (sym k.to ∙ e))
 
     pub made_leaves_move : IsMove P c t m j
-    made_leaves_move = record {
-      late = o.late;
-      live = made_homes j.from o.live;
-      len = (same_body j.from from_a).len ∙ o.len;
-      birth = (same_body j.from from_a).birth ∙ o.birth;
-      header = rw (same_body j.from from_a).colour o.header;
-      copy = copy_goes s t m j (λ e. new_state j.to to_a ∙ e) laid_stays o.copy;
-      apart = λ x i. elim (number_tells x a) [ inl e ↦ absurd (rw (e, a_state) at i) | inr n ↦ o.apart x (rw (new_state x n) at i) ];
-      head = rw (new_here j.from 0 from_a) o.head;
-      field = field_goes P L c s w m j job o t (λ k g lt. rw (new_here j.from g from_a, copy_stays k g) (o.field g lt));
-    }
+    made_leaves_move =
+        let copy = copy_goes s t m j (λ e. new_state j.to to_a ∙ e) laid_stays o.copy in
+        let field = field_goes P L c s w m j job o t (λ k g lt. rw (new_here j.from g from_a, copy_stays k g) (o.field g lt)) in
+        move_goes P L c s w m j job o t (same_body j.from from_a) (made_homes j.from o.live) forwards copy (rw (new_here j.from 0 from_a) o.head) field
+      where
+        forwards : (x : ℕ) → IsForward (t.state x) → s.to x ≢ j.from
+        forwards x i = elim (number_tells x a) [ inl e ↦ absurd (rw (e, a_state) at i) | inr n ↦ o.apart x (rw (new_state x n) at i) ]

@@ -1,13 +1,13 @@
 -- A move under the steps of passes.
 use Rattle.std.proofs.Common.{◌≡◌, ◌≢◌, ℕ, ◌<◌, inl, inr, refl, arith, ap, sym, subst, ◌∙◌, Some, List}
 use Rattle.heap_words.specs.declared.field_word.FieldWord.{FieldWord}
-use Rattle.wide_objects.specs.Statuses.{InWide}
+use Rattle.wide_objects.specs.Statuses.{Status, InWide}
 use Rattle.space_reclaim.specs.declared.move_job.MoveJob.{MoveJob}
 use Rattle.space_reclaim.specs.declared.region_word.RegionWord.{RegionWord}
 use Rattle.heap_history.specs.NewestFirst.{Before}
 use Rattle.heap_history.specs.declared.call.Call.{Call}
 use Rattle.barriers.specs.States.{State, Absent, Plain, Kept, Tagged, Underway, IsHome, IsLive, On}
-use Rattle.barriers.specs.Spaces.{Space, Holds, here, zone, Copied, copy_word}
+use Rattle.barriers.specs.Spaces.{Space, Holds, Here, here, zone, Copied, copy_word}
 use Rattle.barriers.specs.Values.{value_of}
 use Rattle.barriers.specs.Cycles.{Cycle}
 use Rattle.barriers.specs.Events.{IsUncopied, IsWide, Event, Quiet, Keep, Write, Write_copy, Widen, after, after_copy, May, Unmarked}
@@ -86,12 +86,12 @@ wide_live : (x : State) → IsWide x → IsLive x
 wide_live x h = grind (arith, h)
 
 -- what is known of the header is the same at all fields
-pub same_head : (s : Space) (a f g : ℕ) → SameHead (here s a f) (here s a g)
-same_head s a f g = record { state = refl; len = refl; to = refl; wide = refl; address = refl; seal = refl }
+pub same_head : (x : Here) (w : FieldWord) (u : Status) → SameHead x (record x { word = w; status = u })
+same_head x w u = record { state = refl; len = refl; to = refl; wide = refl; address = refl; seal = refl }
 
 module _ (P : Protocol) (L : ProtocolLaws P) (c : Cycle) (s : Space) (w : AreObjects P c s) (m : Carried) (j : MoveJob) (job : job_of m ≡ Some j) (o : IsMove P c s m j) where
   pub head_at : (g : ℕ) → P.MoveHead c m (here s j.from g)
-  head_at g = L.moves.heads c m (here s j.from 0) (here s j.from g) (same_head s j.from 0 g) o.head
+  head_at g = L.moves.heads c m (here s j.from 0) (here s j.from g) (same_head (here s j.from 0) (s.word j.from g) (s.status j.from g)) o.head
 
   pub live_at : IsLive (s.state j.from)
   live_at = home_live (s.state j.from) o.live
@@ -119,6 +119,20 @@ module _ (P : Protocol) (L : ProtocolLaws P) (c : Cycle) (s : Space) (w : AreObj
   pub not_from : (a : ℕ) → IsCarrying (s.state a) → s.to a ≢ j.from
   not_from a i e = not_underway (s.state j.from) live_at (ap s.state (sym e) ∙ (w.under a i).state)
 
+  -- in a space in which the object, its header apart from the state, is as it was
+  pub move_goes : (t : Space) → SameBody s t j.from → IsHome (t.state j.from) → ((a : ℕ) → IsForward (t.state a) → t.to a ≢ j.from) → CopyAt t m j → P.MoveHead c m (here t j.from 0) → ((g : ℕ) → g < j.len → P.MoveField c m g (here t j.from g) (copy_word t j.from g)) → IsMove P c t m j
+  move_goes t body live apart copy head field = record {
+    late = o.late;
+    live = live;
+    len = body.len ∙ o.len;
+    birth = body.birth ∙ o.birth;
+    header = rw body.colour o.header;
+    copy = copy;
+    apart = apart;
+    head = head;
+    field = field;
+  }
+
   -- where there is no copy yet, nothing is known of the fields
   pub field_goes : (t : Space) → (IsLaid s j → (g : ℕ) → g < j.len → P.MoveField c m g (here t j.from g) (copy_word t j.from g)) → (g : ℕ) → g < j.len → P.MoveField c m g (here t j.from g) (copy_word t j.from g)
   field_goes t laid g lt = by_case (copy_case s m j o.copy)
@@ -130,19 +144,13 @@ module _ (P : Protocol) (L : ProtocolLaws P) (c : Cycle) (s : Space) (w : AreObj
 
   -- ---- the word of a region is stored
   pub region_leaves_move : (k : ℕ) (x : RegionWord) → IsMove P c (put_region s k x) m j
-  region_leaves_move k x = record {
-    late = o.late;
-    live = o.live;
-    len = o.len;
-    birth = o.birth;
-    header = o.header;
-    apart = o.apart;
-    copy = copy_goes s (put_region s k x) m j (λ e. e) (laid_goes s (put_region s k x) j all all (λ e. e) (λ g. refl) refl) o.copy;
-    head = o.head;
-    field = o.field;
-  } where
-    all : {a : ℕ} → SameBody s (put_region s k x) a
-    all = record { colour = refl; len = refl; birth = refl; to = refl; wide = refl }
+  region_leaves_move k x = move_goes (put_region s k x) all o.live o.apart copy o.head o.field
+    where
+      all : {a : ℕ} → SameBody s (put_region s k x) a
+      all = record { colour = refl; len = refl; birth = refl; to = refl; wide = refl }
+
+      copy : CopyAt (put_region s k x) m j
+      copy = copy_goes s (put_region s k x) m j (λ e. e) (laid_goes s (put_region s k x) j all all (λ e. e) (λ g. refl) refl) o.copy
 
   -- ---- a word is put
   module _ (b z f : ℕ) (v : FieldWord) (new : List Call) (later : (early : List Call) → Before early s.history → Before early new) (home : IsHome (s.state (s.home b))) (birth : s.birth (s.home b) ≡ b) (clean : Unmarked c v) (hold : On (Holds s) v)
@@ -176,17 +184,10 @@ module _ (P : Protocol) (L : ProtocolLaws P) (c : Cycle) (s : Space) (w : AreObj
     body a = record { colour = refl; len = refl; birth = refl; to = refl; wide = refl }
 
     pub put_move : IsMove P c t m j
-    put_move = record {
-      late = o.late;
-      live = o.live;
-      len = o.len;
-      birth = o.birth;
-      header = o.header;
-      apart = o.apart;
-      copy = copy_goes s t m j (λ e. e) (laid_goes s t j (body j.from) (body j.to) (λ e. e) (λ g. refl) refl) o.copy;
-      head = L.moves.heads c m (here s j.from 0) (here t j.from 0) (record { state = refl; len = refl; to = refl; wide = refl; address = refl; seal = refl }) o.head;
-      field = field_goes t laid_field;
-    }
+    put_move =
+        let copy = copy_goes s t m j (λ e. e) (laid_goes s t j (body j.from) (body j.to) (λ e. e) (λ g. refl) refl) o.copy in
+        let head = L.moves.heads c m (here s j.from 0) (here t j.from 0) (same_head (here s j.from 0) (t.word j.from 0) (t.status j.from 0)) o.head in
+        move_goes t (body j.from) o.live o.apart copy head (field_goes t laid_field)
 
   -- ---- a wide word is exchanged
   module _ (a f : ℕ) (v : FieldWord) (new : List Call) (makes : P.Makes (Widen v)) (wide : IsWide (s.state a)) (uncopied : IsUncopied (s.status a f)) where
@@ -208,17 +209,9 @@ module _ (P : Protocol) (L : ProtocolLaws P) (c : Cycle) (s : Space) (w : AreObj
         laid_goes s u j (wide_body j.from) (wide_body j.to) (λ e. e) (λ g. set2_else s.status a f j.to g (InWide v) (λ y. apart y.0)) refl k
 
     pub wide_move : IsMove P c u m j
-    wide_move = record {
-      late = o.late;
-      live = o.live;
-      len = o.len;
-      birth = o.birth;
-      header = o.header;
-      apart = o.apart;
-      copy = copy_goes s u m j (λ e. e) wide_laid o.copy;
-      head = L.moves.heads c m (here s j.from 0) (here u j.from 0) (record { state = refl; len = refl; to = refl; wide = refl; address = refl; seal = refl }) o.head;
-      field = wide_field;
-    }
+    wide_move =
+        let head = L.moves.heads c m (here s j.from 0) (here u j.from 0) (same_head (here s j.from 0) (u.word j.from 0) (u.status j.from 0)) o.head in
+        move_goes u (wide_body j.from) o.live o.apart (copy_goes s u m j (λ e. e) wide_laid o.copy) head wide_field
 
   -- ---- a header becomes Kept
   module _ (a : ℕ) (makes : P.Makes Keep) (tagged : s.state a ≡ Tagged) where
@@ -245,14 +238,7 @@ module _ (P : Protocol) (L : ProtocolLaws P) (c : Cycle) (s : Space) (w : AreObj
     keep_other x n e = elim (set_cases s.state a j.to Kept) [ inl q ↦ absurd (n (sym e ∙ (ap s.state q.0 ∙ tagged))) | inr q ↦ q.1 ∙ e ]
 
     pub keep_move : IsMove P c k m j
-    keep_move = record {
-      late = o.late;
-      live = elim (set_cases s.state a j.from Kept) [ inl q ↦ rw q.1 tt | inr q ↦ rw q.1 o.live ];
-      len = o.len;
-      birth = o.birth;
-      header = o.header;
-      apart = λ x i. o.apart x (elim (set_cases s.state a x Kept) [ inl q ↦ absurd (rw q.1 at i) | inr q ↦ rw q.1 at i ]);
-      copy = copy_goes s k m j (keep_other Absent (λ e. cc e)) (laid_goes s k j (kept_body j.from) (kept_body j.to) (keep_other Underway (λ e. cc e)) (λ g. refl) refl) o.copy;
-      head = keep_head 0;
-      field = keep_field;
-    }
+    keep_move =
+        let copy = copy_goes s k m j (keep_other Absent (λ e. cc e)) (laid_goes s k j (kept_body j.from) (kept_body j.to) (keep_other Underway (λ e. cc e)) (λ g. refl) refl) o.copy in
+        let live : IsHome (k.state j.from) = elim (set_cases s.state a j.from Kept) [ inl q ↦ rw q.1 tt | inr q ↦ rw q.1 o.live ] in
+        move_goes k (kept_body j.from) live (λ x i. o.apart x (elim (set_cases s.state a x Kept) [ inl q ↦ absurd (rw q.1 at i) | inr q ↦ rw q.1 at i ])) copy (keep_head 0) keep_field

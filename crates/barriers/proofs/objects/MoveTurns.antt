@@ -1,32 +1,62 @@
 -- A step of a mover, over any copier, keeps the objects lawful and the move where it stands; and how a move begins.
-use Rattle.std.proofs.Common.{◌≡◌, ◌≢◌, ℕ, ◌<◌, ◌⊎◌, inl, inr, refl, sym, subst, ◌∙◌, Bool, true, false, Option, Some, None, List, ◌==◌, if◌then◌else◌}
+use Rattle.std.proofs.Common.{◌≡◌, ◌≢◌, ℕ, ◌<◌, ◌⊎◌, inl, inr, refl, sym, subst, ◌∙◌, Bool, true, false, Option, Some, None, ◌+◌, ◌==◌, if◌then◌else◌, arith}
 use Rattle.std.proofs.lemmas.Bool.Decides.{eqb_tells}
 use Rattle.heap_words.specs.Layouts.{Sizes}
 use Rattle.heap_words.specs.declared.field_word.FieldWord.{FieldWord}
 use Rattle.wide_objects.specs.Statuses.{Status, InOriginal, InWide, InCopy}
 use Rattle.space_reclaim.specs.declared.move_job.MoveJob.{MoveJob}
-use Rattle.heap_history.specs.NewestFirst.{Before}
-use Rattle.heap_history.specs.NewestFirstLaws.{Before-refl}
-use Rattle.heap_history.specs.declared.call.Call.{Call}
 use Rattle.barriers.specs.States.{State, Absent, Plain, Kept, Tagged, Wide, Moving, Underway, Forward, Dead, On, same_word}
 use Rattle.barriers.specs.Spaces.{Space, Holds, here, copy_word, held}
+use Rattle.barriers.specs.Rows.{region_of}
 use Rattle.barriers.specs.Cycles.{Cycle}
-use Rattle.barriers.specs.Knowns.{Nothing, Header_word}
+use Rattle.barriers.specs.Knowns.{Nothing}
 use Rattle.barriers.specs.Events.{Event, Quiet, Widen, Put_copy, Take, Mark, Pass_on, Seal_on}
-use Rattle.barriers.specs.Moves.{Carried, Idles, Looks, Lays, Points, Gives_up, Seals, Starts, Forwards, Takes_up, Asks, Widens, Finishes, Marks, Puts, job_of, widen_event, finish_event, mark_event}
+use Rattle.barriers.specs.Moves.{Carried, Idles, Looks, Lays, Points, Gives_up, Seals, Starts, Forwards, Takes_up, Asks, Widens, Finishes, Marks, Puts, job_of, move_finds, widen_event, finish_event, mark_event}
 use Rattle.barriers.specs.Protocols.{Protocol, OnHand}
-use Rattle.barriers.specs.ProtocolLaws.{IsFirst, ProtocolLaws}
+use Rattle.barriers.specs.ProtocolLaws.{ProtocolLaws}
 use Rattle.barriers.specs.Objects.{HasLens, AreObjects, CopyAt, IsMove}
-use Rattle.barriers.specs.MoveSteps.{seal_wide, forward_by, field_by, space_moved}
-use Rattle.barriers.specs.MoveTurns.{Was_left, MovesTo, MoveStep, CanMove, mover_after}
+use Rattle.barriers.specs.MoveSteps.{lay, seal_wide, forward_by, field_by, space_moved}
+use Rattle.barriers.specs.MoveTurns.{Was_left, MovesTo, MoveStep, IsFirst, CanMove, mover_after}
+use Rattle.barriers.proofs.words.Sets.{set_else}
 use Rattle.barriers.proofs.objects.Base.{on_goes}
 use Rattle.barriers.proofs.objects.Seen.{same_seen}
 use Rattle.barriers.proofs.objects.MoveStays.{live_at}
 use Rattle.barriers.proofs.objects.Carries.{move_end}
-use Rattle.barriers.proofs.objects.MoveKinds.{quiet_turn, point_turn, start_turn, seal_turn, put_turn, status_turn, word_turn}
+use Rattle.barriers.proofs.objects.MoveKinds.{now_past, quiet_turn, point_turn, start_turn, seal_turn, put_turn, status_turn, word_turn}
 use Rattle.barriers.proofs.objects.GivesUp.{give_up_turn}
 use Rattle.barriers.proofs.objects.Forwards.{forward_turn}
 use Rattle.barriers.proofs.objects.Lays.{lay_turn}
+
+-- ---- regions
+
+-- no step of a mover changes what a region is used for
+pub moved_region : (l : Sizes) (mark : Option FieldWord) (s : Space) (m : Carried) (k : ℕ) → (space_moved l mark s m).region k ≡ s.region k
+moved_region l mark s m k = grind arith
+
+-- and objects are added to the region of the copy alone
+pub moved_ends : (l : Sizes) (mark : Option FieldWord) (s : Space) (m : Carried) (j : MoveJob) (k : ℕ) → job_of m ≡ Some j → k ≢ region_of l j.to → (space_moved l mark s m).ends k ≡ s.ends k
+moved_ends l mark s m j k job apart = by_mover m job
+  where
+    lay_ends : (i : MoveJob) → i ≡ j → (lay l s i).ends k ≡ s.ends k
+    lay_ends i same = rw same (set_else s.ends (region_of l j.to) k (j.to + 1 + j.len) apart)
+
+    by_mover : (m : Carried) → job_of m ≡ Some j → (space_moved l mark s m).ends k ≡ s.ends k
+    by_mover (Lays i) e = lay_ends i (cc e)
+    by_mover Idles e = refl
+    by_mover (Looks i) e = refl
+    by_mover (Points i) e = refl
+    by_mover (Gives_up i) e = refl
+    by_mover (Seals i) e = grind arith
+    by_mover (Starts i) e = refl
+    by_mover (Forwards i) e = grind arith
+    by_mover (Takes_up i f) e = refl
+    by_mover (Asks i f) e = refl
+    by_mover (Widens i f w) e = grind arith
+    by_mover (Finishes i f w) e = grind arith
+    by_mover (Marks i f w) e = grind arith
+    by_mover (Puts i f w) e = refl
+
+-- ---- events
 
 -- an event at one field
 at_field : (f g : ℕ) (a : ℕ → Event) (e : Event) → (g ≡ f → a g ≡ e) → ((g ≡ f) × ((if g == f then a g else Quiet) ≡ e)) ⊎ ((g ≢ f) × ((if g == f then a g else Quiet) ≡ Quiet))
@@ -50,7 +80,7 @@ module _ (P : Protocol) (L : ProtocolLaws P) (l : Sizes) (c : Cycle) (s : Space)
     objects = w;
     lens = lens;
     seen = same_seen P L c s;
-    move = λ k e. absurd (let gone : None ≡ Some k = sym (L.moves.looked j (Header_word (s.state j.from) (s.colour j.from) (s.len j.from))) ∙ e in cc);
+    move = λ k e. absurd (let gone : None ≡ Some k = sym (L.moves.looked j (move_finds (here s j.from 0) (Looks j))) ∙ e in cc);
     ended = λ none. Was_left (λ a. record { state = refl; seal = refl; body = record { colour = refl; len = refl; birth = refl; to = refl; wide = refl } });
     history = refl;
     others = λ a n d. record { state = refl; seal = refl; body = record { colour = refl; len = refl; birth = refl; to = refl; wide = refl } };
@@ -73,14 +103,11 @@ module _ (P : Protocol) (L : ProtocolLaws P) (l : Sizes) (c : Cycle) (s : Space)
     not_kept : Move (Forwards j) j → (s.state j.from ≡ Kept → ⊥) → job_of (mover_after P s (Forwards j) j) ≡ None
     not_kept o n = elim (L.moves.forwarded c j (here s j.from 0) o.head) [ inl e ↦ absurd (n e) | inr e ↦ e ]
 
-    now_past : (past : List Call) → Some s.history ≡ Some past → Before past s.history
-    now_past past e = let now : past ≡ s.history = cc in rw now (Before-refl s.history)
-
     forwards_by : Move (Forwards j) j → (x : State) → s.state j.from ≡ x → Turn (Forwards j) j (forward_by s j x)
     forwards_by o Tagged e =
         let none : s.seal j.from ≡ None = w.unsealed j.from (rw e tt) in
         forward_turn P L c s w lens (Forwards j) j refl o o.copy (Some s.history) (Seal_on j.to s.history)
-        (record { event = λ g. rw e refl; arrives = tt; after_is = λ g. refl; copy_is = λ d. refl; past = now_past; sealed = λ past q. absurd (let gone : None ≡ Some past = sym none ∙ q in cc) })
+        (record { event = λ g. rw e refl; arrives = tt; after_is = λ g. refl; copy_is = λ d. refl; past = now_past s.history; sealed = λ past q. absurd (let gone : None ≡ Some past = sym none ∙ q in cc) })
         (not_kept o (λ q. cc (e, q)))
     forwards_by o (Wide y) e = forward_turn P L c s w lens (Forwards j) j refl o o.copy (s.seal j.from) (Pass_on j.to) (record { event = λ g. rw e refl; arrives = tt; after_is = λ g. refl; copy_is = λ d. refl; past = w.seals j.from; sealed = λ past q. q }) (not_kept o (λ q. cc (e, q)))
     forwards_by o (Moving y) e = forward_turn P L c s w lens (Forwards j) j refl o o.copy (s.seal j.from) (Pass_on j.to) (record { event = λ g. rw e refl; arrives = tt; after_is = λ g. refl; copy_is = λ d. refl; past = w.seals j.from; sealed = λ past q. q }) (not_kept o (λ q. cc (e, q)))
@@ -150,23 +177,22 @@ module _ (P : Protocol) (L : ProtocolLaws P) (l : Sizes) (c : Cycle) (s : Space)
 
 -- ---- a move begins
 
-module _ (P : Protocol) (L : ProtocolLaws P) (c : Cycle) (s : Space) (j : MoveJob) (can : CanMove P c s j) where
-  begins_as : (m : Carried) → CopyAt s m j → ((g : ℕ) → P.MoveField c m g (here s j.from g) (copy_word s j.from g)) → P.MoveHead c m (here s j.from 0) → IsMove P c s m j
-  begins_as m copy field head = record {
-    late = can.late;
-    live = can.live;
-    len = can.len;
-    birth = can.birth;
-    header = can.header;
-    copy = copy;
-    apart = can.apart;
-    head = head;
-    field = λ g lt. field g;
-  }
+pub move_begins : (P : Protocol) (L : ProtocolLaws P) (c : Cycle) (s : Space) (m : Carried) (j : MoveJob) → CanMove P c s m j → IsMove P c s m j
+move_begins P L c s m j can = record {
+  late = can.late;
+  live = can.live;
+  len = can.len;
+  birth = can.birth;
+  header = can.header;
+  copy = copy m can.first;
+  apart = can.apart;
+  head = can.head;
+  field = λ g lt. field m g can.first;
+} where
+  copy : (m : Carried) → IsFirst j m → CopyAt s m j
+  copy m (inl e) = rw e tt
+  copy m (inr e) = rw e can.absent
 
-  by_first : (m : Carried) → IsFirst j m → P.MoveHead c m (here s j.from 0) → IsMove P c s m j
-  by_first m (inl e) head = begins_as m (rw e tt) (λ g. rw e (L.moves.looks c j g (here s j.from g) (copy_word s j.from g))) head
-  by_first m (inr e) head = begins_as m (rw e can.absent) (λ g. rw e (L.moves.lays c j g (here s j.from g) (copy_word s j.from g))) head
-
-  pub move_begins : IsMove P c s (P.move_begins j) j
-  move_begins = by_first (P.move_begins j) (L.moves.first j) can.head
+  field : (m : Carried) (g : ℕ) → IsFirst j m → P.MoveField c m g (here s j.from g) (copy_word s j.from g)
+  field m g (inl e) = rw e (L.moves.looks c j g (here s j.from g) (copy_word s j.from g))
+  field m g (inr e) = rw e (L.moves.lays c j g (here s j.from g) (copy_word s j.from g))
