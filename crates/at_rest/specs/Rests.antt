@@ -78,7 +78,7 @@ rest_cycle = record {
   narrow = λ c b f x w shape still. shape.status;
 }
 
-packed_word : (word : FieldWord) → IsFieldWord word → IsPackedWord (word_of word)
+pub packed_word : (word : FieldWord) → IsFieldWord word → IsPackedWord (word_of word)
 packed_word word fits =
     let same = field_at-word_of word fits in
     record { same = ap word_of (sym same); fits = subst IsFieldWord (sym same) fits }

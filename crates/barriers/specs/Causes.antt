@@ -80,7 +80,7 @@ read_by_len : (spot its : Spot) (phase its_phase : Phase) (earlier : List Taken)
 read_by_len spot its phase its_phase earlier len true same same_phase = (same, same_phase)
 read_by_len spot its phase its_phase earlier len false same same_phase = tt
 
-read_keeps : (spot : Spot) (phase : Phase) (earlier : List Taken) (m : ReadMachine) (n : ℕ) → IsReadFor spot phase earlier m → IsReadFor spot phase (up_to (step_of reads.asks_of earlier m n)) (reads.fed_of m n)
+pub read_keeps : (spot : Spot) (phase : Phase) (earlier : List Taken) (m : ReadMachine) (n : ℕ) → IsReadFor spot phase earlier m → IsReadFor spot phase (up_to (step_of reads.asks_of earlier m n)) (reads.fed_of m n)
 read_keeps spot phase earlier (read.Header its its_phase) n is = read_by_len spot its phase its_phase _ (len_at n) (nat_lt its.field (len_at n)) is.0 is.1
 read_keeps spot phase earlier (read.Field its its_phase) n is =
     let look : LastStep = step_of reads.asks_of earlier (read.Field its its_phase) n in
@@ -95,7 +95,7 @@ first_read spot its phase its_phase earlier n false same first e end is =
     let none : read_end.NoField (len_at n) ≡ end = cc in
     subst (ReadEndsFor spot phase (header_load its earlier n)) none (lacks_field its spot earlier n same first e)
 
-read_ends : (spot : Spot) (phase : Phase) (earlier : List Taken) (m : ReadMachine) (n : ℕ) → IsReadFor spot phase earlier m → reads.asks_of m ≢ Ended → ForSome (reads.end_of (reads.fed_of m n)) (ReadEndsFor spot phase (step_of reads.asks_of earlier m n))
+pub read_ends : (spot : Spot) (phase : Phase) (earlier : List Taken) (m : ReadMachine) (n : ℕ) → IsReadFor spot phase earlier m → reads.asks_of m ≢ Ended → ForSome (reads.end_of (reads.fed_of m n)) (ReadEndsFor spot phase (step_of reads.asks_of earlier m n))
 read_ends spot phase earlier (read.Header its its_phase) n is on = first_read spot its phase its_phase earlier n (nat_lt its.field (len_at n)) is.0 is.2 refl
 read_ends spot phase earlier (read.Field its its_phase) n is on =
     let look : LastStep = step_of reads.asks_of earlier (read.Field its its_phase) n in
@@ -135,7 +135,7 @@ write_by_len : (spot its : Spot) (word its_word : ℕ) (earlier : List Taken) (l
 write_by_len spot its word its_word earlier len true same same_word = (same, same_word)
 write_by_len spot its word its_word earlier len false same same_word = tt
 
-write_keeps : (spot : Spot) (word : ℕ) (earlier : List Taken) (m : WriteMachine) (n : ℕ) → IsWriteFor spot word earlier m → IsWriteFor spot word (up_to (step_of writes.asks_of earlier m n)) (writes.fed_of m n)
+pub write_keeps : (spot : Spot) (word : ℕ) (earlier : List Taken) (m : WriteMachine) (n : ℕ) → IsWriteFor spot word earlier m → IsWriteFor spot word (up_to (step_of writes.asks_of earlier m n)) (writes.fed_of m n)
 write_keeps spot word earlier (write.Header its its_word) n is = write_by_len spot its word its_word _ (len_at n) (nat_lt its.field (len_at n)) is.0 is.1
 write_keeps spot word earlier (write.Field its its_word) n is = tt
 write_keeps spot word earlier (write.Ended here put end) n is = tt
@@ -146,7 +146,7 @@ first_write spot its word its_word earlier n false same first e end is =
     let none : write_end.Refused (refusal.NoField (len_at n)) ≡ end = cc in
     subst (WriteEndsFor spot word (header_load its earlier n)) none (lacks_field its spot earlier n same first e)
 
-write_ends : (spot : Spot) (word : ℕ) (earlier : List Taken) (m : WriteMachine) (n : ℕ) → IsWriteFor spot word earlier m → writes.asks_of m ≢ Ended → ForSome (writes.end_of (writes.fed_of m n)) (WriteEndsFor spot word (step_of writes.asks_of earlier m n))
+pub write_ends : (spot : Spot) (word : ℕ) (earlier : List Taken) (m : WriteMachine) (n : ℕ) → IsWriteFor spot word earlier m → writes.asks_of m ≢ Ended → ForSome (writes.end_of (writes.fed_of m n)) (WriteEndsFor spot word (step_of writes.asks_of earlier m n))
 write_ends spot word earlier (write.Header its its_word) n is on = first_write spot its word its_word earlier n (nat_lt its.field (len_at n)) is.0 is.2 refl
 write_ends spot word earlier (write.Field its its_word) n is on = λ end ends.
     let wrote : write_end.Wrote ≡ end = cc in
@@ -247,7 +247,7 @@ module _ (errand : Errand) (phase : Phase) where
       let refused : exchange_end.Refused why ≡ end = cc in
       subst (Ends (from_header header later)) refused (for_refused header later why (ends (exchange_end.Refused why) refl))
 
-  exchange_keeps : (earlier : List Taken) (m : ExchangeMachine) (n : ℕ) → Is earlier m → Is (up_to (step_of exchanges.asks_of earlier m n)) (exchanges.fed_of m n)
+  pub exchange_keeps : (earlier : List Taken) (m : ExchangeMachine) (n : ℕ) → Is earlier m → Is (up_to (step_of exchanges.asks_of earlier m n)) (exchanges.fed_of m n)
   exchange_keeps earlier (exchange.Header its its_phase) n is =
       let same : exchanges.swap_of its ≡ swap = ap exchanges.swap_of is.0 in
       let header : Taken = record { step = Load its.spot.at; found = n } in
@@ -263,7 +263,7 @@ module _ (errand : Errand) (phase : Phase) where
   exchange_keeps earlier (exchange.Follow here its) n is = follow_ends (at_word.FindsOther swap) phase earlier _ its n is
   exchange_keeps earlier (exchange.Ended here end) n is = tt
 
-  exchange_ends : (earlier : List Taken) (m : ExchangeMachine) (n : ℕ) → Is earlier m → exchanges.asks_of m ≢ Ended → ForSome (exchanges.end_of (exchanges.fed_of m n)) (Ends (step_of exchanges.asks_of earlier m n))
+  pub exchange_ends : (earlier : List Taken) (m : ExchangeMachine) (n : ℕ) → Is earlier m → exchanges.asks_of m ≢ Ended → ForSome (exchanges.end_of (exchanges.fed_of m n)) (Ends (step_of exchanges.asks_of earlier m n))
   exchange_ends earlier (exchange.Header its its_phase) n is on =
       first_exchange its its_phase (exchanges.swap_of its) earlier n (nat_lt its.spot.field (len_at n)) is.0 is.2 refl
   exchange_ends earlier (exchange.Field its its_phase plainly_so) n is on =

@@ -26,7 +26,7 @@ pub use exchange::{Errand, ExchangeMachine};
 pub use front::Front;
 pub use machine_end::{MachineEnd, Request, end_of, start, with_end};
 pub use new_object::{NewMachine, NewPlan, Placement};
-pub use packed::held_by;
+pub use packed::{held_by, len_in};
 pub use pass::{PassMachine, PassRecord};
 pub use plain_exchange::{PlainExchange, Swap, TriesLeft};
 pub use read::ReadMachine;

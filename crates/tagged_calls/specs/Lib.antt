@@ -1,0 +1,12 @@
+pub mod CopyLaws
+pub mod KeepLaws
+pub mod LocationLaws
+pub mod Locations
+pub mod PlacedKnowing
+pub mod PlacedLaws
+pub mod Placeds
+pub mod TaggedCallLaws
+pub mod TaggedCalls
+pub mod TaggedCauses
+pub mod TaggedTable
+pub mod TaggedTableLaws
