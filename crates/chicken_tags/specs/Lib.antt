@@ -1,0 +1,17 @@
+pub mod ChickenCallLaws
+pub mod ChickenExchanges
+pub mod ChickenKnowing
+pub mod ChickenMoveLaws
+pub mod ChickenMoves
+pub mod ChickenReads
+pub mod ChickenTable
+pub mod ChickenWrites
+pub mod Chickens
+pub mod ExchangeCauses
+pub mod ExchangeLaws
+pub mod MoveCauses
+pub mod MoverLaws
+pub mod ReadCauses
+pub mod ReadLaws
+pub mod WriteCauses
+pub mod WriteLaws
