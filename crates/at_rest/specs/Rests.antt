@@ -52,7 +52,7 @@ steps_at_rest = record {
 rest_movable : MovingLaws kinds.AtRest at_rest
 rest_movable = record {
   begins = λ j. refl;
-  ready = λ c j x ready. tt;
+  ready = λ c j x wide ready. tt;
   tags = λ tags. absurd cc;
   keeps = λ makes. absurd makes;
   draws = λ draws m. absurd cc;

@@ -1,5 +1,5 @@
 -- What a cycle asks of a copier, beside the laws of its table.
-use Rattle.std.specs.Prelude.{◌≡◌, ℕ, ◌⊎◌, Bool, true, false, None}
+use Rattle.std.specs.Prelude.{◌≡◌, ◌≢◌, ℕ, ◌⊎◌, Bool, true, false, None}
 use Rattle.heap_words.specs.declared.field_word.FieldWord.{FieldWord}
 use Rattle.object_headers.specs.declared.change.Kind.{Kind}
 use Rattle.object_headers.specs.declared.change.Kind.TheVariants as kinds
@@ -44,6 +44,11 @@ IsReady kinds.Chicken c x = IsTaggedOrKept x.state × (c.told ≡ Everybody)
 IsReady kinds.Clover c x = (x.state ≡ Plain) × (c.told ≡ Everybody) × (c.clear ≡ true) × IsSet c.mark
 IsReady kinds.AtRest c x = Unit {0}
 
+-- where objects are copied through wide objects, a job has one
+abbrev pub HasWide : Kind → MoveJob → Type 0
+HasWide kinds.Stopless j = j.wide ≢ 0
+HasWide kind j = Unit {0}
+
 -- the mover is at a wide object, or about to seal the original for it
 abbrev pub IsAtWide : Carried → Type 0
 IsAtWide (Points j) = Unit {0}
@@ -57,7 +62,7 @@ IsAtWide _ = ⊥
 pub record MovingLaws (kind : Kind) (P : Protocol) : Type 0 where
   -- how a move begins
   pub begins : (j : MoveJob) → P.move_begins j ≡ first_of kind j
-  pub ready : (c : Cycle) (j : MoveJob) (x : Here) → IsReady kind c x → P.MoveHead c (P.move_begins j) x
+  pub ready : (c : Cycle) (j : MoveJob) (x : Here) → HasWide kind j → IsReady kind c x → P.MoveHead c (P.move_begins j) x
   -- what the collector does before: tags, or the draw of a mark and a search that ends clear
   pub tags : does_tag kind ≡ true → P.Makes Tag
   -- and only where objects are tagged is a tag Kept

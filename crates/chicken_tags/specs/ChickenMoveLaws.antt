@@ -166,7 +166,7 @@ tagged_or_kept y is = grind (arith, is)
 pub chicken_movable : MovingLaws kinds.Chicken chicken
 chicken_movable = record {
   begins = λ j. refl;
-  ready = λ c j x ready. ready;
+  ready = λ c j x wide ready. ready;
   tags = λ tags. tt;
   keeps = λ makes. refl;
   draws = λ draws m. absurd cc;
