@@ -20,12 +20,12 @@ use Rattle.barriers.specs.ProtocolLaws.{At, StepEnd, Dated, CallLaws}
 use Rattle.barriers.specs.PlainCalls.{to_original, to_copy, plainly_fed}
 use Rattle.barriers.specs.PlainCallLaws.{spot_at, closes_cases, plainly_holds, where_holds}
 use Rattle.barriers.specs.PlainAnswerLaws.{Tells}
-use Rattle.tagged_calls.specs.TaggedCalls.{tagged_of, by_header, by_kept}
+use Rattle.tagged_calls.specs.TaggedCalls.{as_at_rest, tagged_of, by_header, by_kept}
 use Rattle.tagged_calls.specs.TaggedTable.{MayStore, InTime, IsUnmarked, HasNoMark}
 use Rattle.tagged_calls.specs.TaggedTableLaws.{store_stays, store_may, store_place, unmarked, time_stays, in_time, sealed_value, front_past, front_later}
 use Rattle.tagged_calls.specs.TaggedCallLaws.{IsTaggedCall, GoesWide, original_head, StaysUntagged, header_holds, first_holds, tagged_goes, tagged_head, tagged_inside, tagged_found, tagged_refused, tagged_answered, tagged_wants}
 use Rattle.barriers.specs.PlainAnswerLaws.{original_answered, original_lacking, original_found}
-use Rattle.chicken_tags.specs.ChickenTable.{as_at_rest, chicken_fed, ChickenFits, ChickenOwn, ChickenState, ChickenShape, ChickenMakes, chicken}
+use Rattle.chicken_tags.specs.ChickenTable.{chicken_fed, ChickenFits, ChickenOwn, ChickenState, ChickenShape, ChickenMakes, chicken}
 
 -- ---- a call is at its header or at a plain word
 

@@ -12,10 +12,9 @@ use Rattle.barriers.specs.Cycles.{Everybody, Cycle, Side, ToldFits}
 use Rattle.barriers.specs.Knowns.{Task, Reads, Known, Loads_header, Keeps, Loads, Stores, Swaps, Loads_copy, Stores_copy, Swaps_copy, Follows, Over, Finds, Header_word, Field_word}
 use Rattle.barriers.specs.Events.{Event, Quiet, Keep, Write, Write_copy, Tag, Lay, Put_copy, Seal_on, Fix_word, Unkeep}
 use Rattle.barriers.specs.Moves.{Carried, Idles, Lays, Gives_up, Forwards, Takes_up, Puts}
-use Rattle.barriers.specs.PlainCalls.{to_original}
 use Rattle.barriers.specs.CycleLaws.{IsTaggedOrKept}
 use Rattle.barriers.specs.Protocols.{Protocol}
-use Rattle.tagged_calls.specs.TaggedCalls.{tagged_fed}
+use Rattle.tagged_calls.specs.TaggedCalls.{as_at_rest, tagged_fed}
 use Rattle.tagged_calls.specs.TaggedTable.{MayStore, InTime, Sealed, DrawsNone, HasNoMark}
 
 -- ---- the machines
@@ -24,9 +23,6 @@ abbrev pub chicken_begins : Stance → ℕ → Option FieldWord → Spot → Tas
 chicken_begins acked cycle own s t = Loads_header s t
 
 -- there are no wide objects: such a header would be taken for that of an object at rest
-abbrev pub as_at_rest : Spot → Task → ℕ → Known
-as_at_rest s t wide = to_original s t
-
 abbrev pub chicken_fed : Stance → Option FieldWord → Known → Finds → Known
 chicken_fed acked own k found = tagged_fed as_at_rest acked k found
 

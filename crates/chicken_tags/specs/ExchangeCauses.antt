@@ -30,13 +30,13 @@ use Rattle.chicken_tags.specs.ChickenExchanges as exchanges
 -- refused for want of the field only where the header that it loaded lacks it.
 abbrev pub ExchangeEnds : Errand → Phase → LastStep → ExchangeEnd → Type 0
 ExchangeEnds errand phase last (exchange_end.Refused (refusal.NoField len)) = LacksField errand.spot last len
-ExchangeEnds errand phase last end = EndsPlaced (λ here. ExchangeEndsFor (record errand { spot = here }) phase) errand.spot last end
+ExchangeEnds errand phase last end = EndsPlaced IsApproach (λ here. ExchangeEndsFor (record errand { spot = here }) phase) errand.spot last end
 
 -- behind these steps the machine is an exchange of this field in this phase
 abbrev IsExchange : Errand → Phase → List Taken → ChickenExchange → Type 0
 IsExchange errand phase earlier (exchange.Header its in_phase) = (its ≡ errand) × (in_phase ≡ phase) × (earlier ≡ [])
 IsExchange errand phase earlier (exchange.Keep its in_phase keep) = (its ≡ errand) × (in_phase ≡ phase) × (earlier ≡ header_load errand.spot keep.tagged ∷ []) × (nat_lt errand.spot.field (len_at keep.tagged) ≡ true)
-IsExchange errand phase earlier (exchange.Field m) = PlacedIs (λ here. IsExchangeFor (record errand { spot = here }) phase) errand.spot earlier m
+IsExchange errand phase earlier (exchange.Field m) = PlacedIs IsApproach (λ here. IsExchangeFor (record errand { spot = here }) phase) errand.spot earlier m
 
 module _ (errand : Errand) (phase : Phase) where
   abbrev spot : Spot
@@ -50,8 +50,8 @@ module _ (errand : Errand) (phase : Phase) where
   exchanged_at n here = rest_exchanges.fed_of (rest_exchange.Header (at here) phase) n
 
   exchange_placed : (n tagged : ℕ) (approach : List Taken) → ((here : Spot) → Leads spot n here → IsApproach spot approach here)
-      → PlacedIs (λ here. IsExchangeFor (at here) phase) spot approach (placed_at (location_in spot n) spot (exchanged_at tagged))
-  exchange_placed n tagged approach leads = led_so (IsPlacedFor (λ here. IsExchangeFor (at here) phase) spot approach) spot n (exchanged_at tagged) (λ here led. record {
+      → PlacedIs IsApproach (λ here. IsExchangeFor (at here) phase) spot approach (placed_at (location_in spot n) spot (exchanged_at tagged))
+  exchange_placed n tagged approach leads = led_so (IsPlacedFor IsApproach (λ here. IsExchangeFor (at here) phase) spot approach) spot n (exchanged_at tagged) (λ here led. record {
     here = here;
     approach = approach;
     led = leads here led;
@@ -72,7 +72,7 @@ module _ (errand : Errand) (phase : Phase) where
       exchange_placed n keep.tagged (header_load spot keep.tagged ∷ header_exchange spot keep.tagged keep.kept n ∷ []) (λ here led. inr (keep.tagged, keep.kept, n, refl, led)) in
       rw (is.0, is.1, is.2) begun
   exchange_goes earlier (exchange.Field m) n is =
-      placed_keeps rest_exchanges.asks_of rest_exchanges.fed_of rest_exchanges.end_of (λ here. IsExchangeFor (at here) phase) (λ here. ExchangeEndsFor (at here) phase) (λ here. exchange_keeps (at here) phase) (λ here. exchange_ends (at here) phase) spot earlier m n is
+      placed_keeps IsApproach rest_exchanges.asks_of rest_exchanges.fed_of rest_exchanges.end_of (λ here. IsExchangeFor (at here) phase) (λ here. ExchangeEndsFor (at here) phase) (λ here. exchange_keeps (at here) phase) (λ here. exchange_ends (at here) phase) spot earlier m n is
 
   -- the steps of its header end it only where the field is lacking
   exchange_first : (n : ℕ) (here : Spot) (b : Bool) → Leads spot n here → nat_lt here.field (len_at n) ≡ b
@@ -86,7 +86,7 @@ module _ (errand : Errand) (phase : Phase) where
   exchange_none here len For true inside end is = absurd cc
   exchange_none here len For false inside end is = absurd cc
 
-  exchange_so : (last : LastStep) (end : ExchangeEnd) → EndsPlaced (λ here. ExchangeEndsFor (at here) phase) spot last end → ExchangeEnds errand phase last end
+  exchange_so : (last : LastStep) (end : ExchangeEnd) → EndsPlaced IsApproach (λ here. ExchangeEndsFor (at here) phase) spot last end → ExchangeEnds errand phase last end
   exchange_so last exchange_end.Done so = so
   exchange_so last (exchange_end.Differs held) so = so
   exchange_so last (exchange_end.Refused (refusal.NoField len)) so = absurd (lacks_no_more so.here last (header_load so.here so.header) so.rest len so.so)
@@ -110,7 +110,7 @@ module _ (errand : Errand) (phase : Phase) where
       (subst (λ (p : Phase). ForSome (exchanges.end_of (exchanges.placed errand p keep.tagged (location_in spot n))) (ExchangeEnds errand phase last)) (sym is.1) none)
   exchange_over earlier (exchange.Field m) n is on = λ end so.
       exchange_so (step_of exchanges.asks_of earlier (exchange.Field m) n) end
-      (placed_ends rest_exchanges.asks_of rest_exchanges.fed_of rest_exchanges.end_of (λ here. IsExchangeFor (at here) phase) (λ here. ExchangeEndsFor (at here) phase) (λ here. exchange_keeps (at here) phase) (λ here. exchange_ends (at here) phase) spot earlier m n is on end so)
+      (placed_ends IsApproach rest_exchanges.asks_of rest_exchanges.fed_of rest_exchanges.end_of (λ here. IsExchangeFor (at here) phase) (λ here. ExchangeEndsFor (at here) phase) (λ here. exchange_keeps (at here) phase) (λ here. exchange_ends (at here) phase) spot earlier m n is on end so)
 
   -- an exchange of this field ends only so
   pub exchange_cause_of : EndsOnlyFor exchanges.asks_of exchanges.fed_of exchanges.end_of (ExchangeEnds errand phase) (exchange.Header errand phase)

@@ -19,12 +19,13 @@ use Rattle.at_rest.specs.Knowing.{task_of}
 use Rattle.at_rest.specs.ExchangeLaws.{exchanging}
 use Rattle.tagged_calls.specs.KeepLaws.{header_goes}
 use Rattle.tagged_calls.specs.LocationLaws.{keep_asks, at_keep}
+use Rattle.tagged_calls.specs.TaggedCalls.{as_at_rest}
 use Rattle.tagged_calls.specs.TaggedCallLaws.{tagged_plainly}
 use Rattle.tagged_calls.specs.PlacedLaws.{placed_asks, placed_goes, placed_plain, placed_looks, placed_follows, placed_over, placed_tells, placed_packed, begins_loaded, begins_kept}
 use Rattle.chicken_tags.specs.declared.exchange.ChickenExchange.{ChickenExchange}
 use Rattle.chicken_tags.specs.declared.exchange.ChickenExchange.TheVariants as exchange
 use Rattle.chicken_tags.specs.ChickenExchanges as machine
-use Rattle.chicken_tags.specs.ChickenTable.{as_at_rest, chicken_fed, chicken}
+use Rattle.chicken_tags.specs.ChickenTable.{chicken_fed, chicken}
 use Rattle.chicken_tags.specs.ChickenKnowing.{exchanges, ExchangesFor}
 
 exchange_asks : (v : PassView) (m : ChickenExchange) → ExchangesFor v m → machine.asks_of m ≡ step_of (exchanges m)

@@ -16,12 +16,13 @@ use Rattle.barriers.specs.Knowns.{Task, Reads, Ending, Follows, Over, finds, loo
 use Rattle.barriers.specs.PlainCalls.{where_field}
 use Rattle.barriers.specs.Kits.{Runs, Stands, own_of, ending_of, said_by, read_said}
 use Rattle.at_rest.specs.ReadLaws.{reading}
+use Rattle.tagged_calls.specs.TaggedCalls.{as_at_rest}
 use Rattle.tagged_calls.specs.TaggedCallLaws.{tagged_plainly, read_header}
 use Rattle.tagged_calls.specs.PlacedLaws.{placed_asks, placed_goes, placed_plain, placed_looks, placed_follows, placed_over, placed_tells, placed_packed, begins_loaded}
 use Rattle.chicken_tags.specs.declared.read.ChickenRead.{ChickenRead}
 use Rattle.chicken_tags.specs.declared.read.ChickenRead.TheVariants as read
 use Rattle.chicken_tags.specs.ChickenReads as machine
-use Rattle.chicken_tags.specs.ChickenTable.{as_at_rest, chicken_fed, chicken}
+use Rattle.chicken_tags.specs.ChickenTable.{chicken_fed, chicken}
 use Rattle.chicken_tags.specs.ChickenKnowing.{reads, ReadsFor}
 
 read_asks : (v : PassView) (m : ChickenRead) → ReadsFor v m → machine.asks_of m ≡ step_of (reads m)

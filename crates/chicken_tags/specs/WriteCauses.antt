@@ -26,7 +26,7 @@ use Rattle.chicken_tags.specs.ChickenWrites as writes
 
 -- it has written as an object at rest is written, where the header led it; and it is refused only where the header that it loaded lacks the field
 abbrev pub WriteEnds : Spot → ℕ → LastStep → WriteEnd → Type 0
-WriteEnds spot word last write_end.Wrote = EndsPlaced (λ here. WriteEndsFor here word) spot last write_end.Wrote
+WriteEnds spot word last write_end.Wrote = EndsPlaced IsApproach (λ here. WriteEndsFor here word) spot last write_end.Wrote
 WriteEnds spot word last (write_end.Refused (refusal.NoField len)) = LacksField spot last len
 WriteEnds spot word last (write_end.Refused why) = ⊥
 
@@ -34,15 +34,15 @@ WriteEnds spot word last (write_end.Refused why) = ⊥
 abbrev IsWrite : Spot → ℕ → List Taken → ChickenWrite → Type 0
 IsWrite spot word earlier (write.Header its put) = (its ≡ spot) × (put ≡ word) × (earlier ≡ [])
 IsWrite spot word earlier (write.Keep its put keep) = (its ≡ spot) × (put ≡ word) × (earlier ≡ header_load spot keep.tagged ∷ []) × (nat_lt spot.field (len_at keep.tagged) ≡ true)
-IsWrite spot word earlier (write.Field m) = PlacedIs (λ here. IsWriteFor here word) spot earlier m
+IsWrite spot word earlier (write.Field m) = PlacedIs IsApproach (λ here. IsWriteFor here word) spot earlier m
 
 module _ (spot : Spot) (word : ℕ) where
   abbrev written : ℕ → Spot → WriteMachine
   written n here = rest_writes.fed_of (rest_write.Header here word) n
 
   write_placed : (n tagged : ℕ) (approach : List Taken) → ((here : Spot) → Leads spot n here → IsApproach spot approach here)
-      → PlacedIs (λ here. IsWriteFor here word) spot approach (placed_at (location_in spot n) spot (written tagged))
-  write_placed n tagged approach leads = led_so (IsPlacedFor (λ here. IsWriteFor here word) spot approach) spot n (written tagged) (λ here led. record {
+      → PlacedIs IsApproach (λ here. IsWriteFor here word) spot approach (placed_at (location_in spot n) spot (written tagged))
+  write_placed n tagged approach leads = led_so (IsPlacedFor IsApproach (λ here. IsWriteFor here word) spot approach) spot n (written tagged) (λ here led. record {
     here = here;
     approach = approach;
     led = leads here led;
@@ -63,7 +63,7 @@ module _ (spot : Spot) (word : ℕ) where
       write_placed n keep.tagged (header_load spot keep.tagged ∷ header_exchange spot keep.tagged keep.kept n ∷ []) (λ here led. inr (keep.tagged, keep.kept, n, refl, led)) in
       rw (is.0, is.1, is.2) begun
   write_goes earlier (write.Field m) n is =
-      placed_keeps rest_writes.asks_of rest_writes.fed_of rest_writes.end_of (λ here. IsWriteFor here word) (λ here. WriteEndsFor here word) (λ here. write_keeps here word) (λ here. write_ends here word) spot earlier m n is
+      placed_keeps IsApproach rest_writes.asks_of rest_writes.fed_of rest_writes.end_of (λ here. IsWriteFor here word) (λ here. WriteEndsFor here word) (λ here. write_keeps here word) (λ here. write_ends here word) spot earlier m n is
 
   -- the steps of its header end it only where the field is lacking
   write_first : (n : ℕ) (here : Spot) (b : Bool) → Leads spot n here → nat_lt here.field (len_at n) ≡ b
@@ -77,7 +77,7 @@ module _ (spot : Spot) (word : ℕ) where
   write_none here len For true inside end is = absurd cc
   write_none here len For false inside end is = absurd cc
 
-  write_so : (last : LastStep) (end : WriteEnd) → EndsPlaced (λ here. WriteEndsFor here word) spot last end → WriteEnds spot word last end
+  write_so : (last : LastStep) (end : WriteEnd) → EndsPlaced IsApproach (λ here. WriteEndsFor here word) spot last end → WriteEnds spot word last end
   write_so last write_end.Wrote so = so
   write_so last (write_end.Refused (refusal.NoField len)) so = absurd (lacks_no_more so.here last (header_load so.here so.header) so.rest len so.so)
   write_so last (write_end.Refused refusal.NotLink) so = so.so
@@ -100,7 +100,7 @@ module _ (spot : Spot) (word : ℕ) where
       (subst (λ (p : ℕ). ForSome (writes.end_of (writes.placed spot p keep.tagged (location_in spot n))) (WriteEnds spot word last)) (sym is.1) none)
   write_over earlier (write.Field m) n is on = λ end so.
       write_so (step_of writes.asks_of earlier (write.Field m) n) end
-      (placed_ends rest_writes.asks_of rest_writes.fed_of rest_writes.end_of (λ here. IsWriteFor here word) (λ here. WriteEndsFor here word) (λ here. write_keeps here word) (λ here. write_ends here word) spot earlier m n is on end so)
+      (placed_ends IsApproach rest_writes.asks_of rest_writes.fed_of rest_writes.end_of (λ here. IsWriteFor here word) (λ here. WriteEndsFor here word) (λ here. write_keeps here word) (λ here. write_ends here word) spot earlier m n is on end so)
 
   -- a write of this field ends only so
   pub write_cause_of : EndsOnlyFor writes.asks_of writes.fed_of writes.end_of (WriteEnds spot word) (write.Header spot word)

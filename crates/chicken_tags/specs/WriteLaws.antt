@@ -19,12 +19,13 @@ use Rattle.barriers.specs.Kits.{Runs, Stands, own_of, ending_of, said_by, write_
 use Rattle.at_rest.specs.WriteLaws.{writing}
 use Rattle.tagged_calls.specs.KeepLaws.{header_goes}
 use Rattle.tagged_calls.specs.LocationLaws.{keep_asks, at_keep}
+use Rattle.tagged_calls.specs.TaggedCalls.{as_at_rest}
 use Rattle.tagged_calls.specs.TaggedCallLaws.{tagged_plainly}
 use Rattle.tagged_calls.specs.PlacedLaws.{placed_asks, placed_goes, placed_plain, placed_looks, placed_follows, placed_over, placed_tells, placed_packed, begins_loaded, begins_kept}
 use Rattle.chicken_tags.specs.declared.write.ChickenWrite.{ChickenWrite}
 use Rattle.chicken_tags.specs.declared.write.ChickenWrite.TheVariants as write
 use Rattle.chicken_tags.specs.ChickenWrites as machine
-use Rattle.chicken_tags.specs.ChickenTable.{as_at_rest, chicken_fed, chicken}
+use Rattle.chicken_tags.specs.ChickenTable.{chicken_fed, chicken}
 use Rattle.chicken_tags.specs.ChickenKnowing.{writes, WritesFor}
 
 write_asks : (v : PassView) (m : ChickenWrite) → WritesFor v m → machine.asks_of m ≡ step_of (writes m)

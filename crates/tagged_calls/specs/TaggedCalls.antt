@@ -18,6 +18,10 @@ abbrev pub keeps_first : Spot → Task → Header → Known
 keeps_first s Reads tagged = to_original s Reads
 keeps_first s t tagged = Keeps s t tagged
 
+-- a wide object's original, taken for an object at rest
+abbrev pub as_at_rest : Spot → Task → ℕ → Known
+as_at_rest s t wide = to_original s t
+
 -- where a copier goes on so at a wide object
 module _ (to_wide : Spot → Task → ℕ → Known) where
   -- by the header that the exchange for Kept found: with any but these it won, or another call had won

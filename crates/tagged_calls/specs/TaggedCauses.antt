@@ -36,17 +36,21 @@ LeadsBy state target spot here = (here ≡ spot) ⊎ ((state ≡ states.Forward)
 abbrev pub Leads : Spot → ℕ → Spot → Type 0
 Leads spot word here = let h = header_at word in LeadsBy h.state h.target spot here
 
--- these steps led here: the load of the header, and then, perhaps, the exchange of what it found
-abbrev pub IsApproach : Spot → List Taken → Spot → Type 0
-IsApproach spot steps here =
-    ((word : ℕ) × (steps ≡ header_load spot word ∷ []) × Leads spot word here)
-    ⊎ ((tagged : ℕ) × (kept : ℕ) × (word : ℕ) × (steps ≡ header_load spot tagged ∷ header_exchange spot tagged kept word ∷ []) × Leads spot word here)
+-- these steps are the load of the header, and then, perhaps, the exchange of what it found; and this is so of the header found last
+abbrev pub IsHeaderWay : (ℕ → Type 0) → Spot → List Taken → Type 0
+IsHeaderWay Says spot steps =
+    ((word : ℕ) × (steps ≡ header_load spot word ∷ []) × Says word)
+    ⊎ ((tagged : ℕ) × (kept : ℕ) × (word : ℕ) × (steps ≡ header_load spot tagged ∷ header_exchange spot tagged kept word ∷ []) × Says word)
 
--- behind the steps that led to its place, the call did what ends a call of an object at rest so, whose header this word is
-pub record EndsPlaced {E : Type 0} (For : Spot → LastStep → E → Type 0) (spot : Spot) (last : LastStep) (end : E) : Type 0 where
+-- these steps led here
+abbrev pub IsApproach : Spot → List Taken → Spot → Type 0
+IsApproach spot steps here = IsHeaderWay (λ word. Leads spot word here) spot steps
+
+-- Behind the steps that led to its place in such a way, the call did what ends a call of an object at rest so, whose header this word is
+pub record EndsPlaced {E : Type 0} (Led : Spot → List Taken → Spot → Type 0) (For : Spot → LastStep → E → Type 0) (spot : Spot) (last : LastStep) (end : E) : Type 0 where
   pub here : Spot
   pub approach : List Taken
-  pub led : IsApproach spot approach here
+  pub led : Led spot approach here
   pub header : ℕ
   pub rest : List Taken
   pub splits : last.earlier ≡ approach ++ rest
@@ -92,12 +96,12 @@ lacks_no_more here last first rest len lacking = let none : first ∷ rest ≡ [
 
 -- ---- that it is so
 
-module _ {K : Type 0} (Is : Spot → List Taken → K → Type 0) where
+module _ {K : Type 0} (Led : Spot → List Taken → Spot → Type 0) (Is : Spot → List Taken → K → Type 0) where
   -- behind these steps it is at its place
   pub record IsPlacedFor (spot : Spot) (earlier : List Taken) (m : K) : Type 0 where
     pub here : Spot
     pub approach : List Taken
-    pub led : IsApproach spot approach here
+    pub led : Led spot approach here
     pub header : ℕ
     pub rest : List Taken
     pub splits : earlier ≡ approach ++ rest
@@ -107,10 +111,10 @@ module _ {K : Type 0} (Is : Spot → List Taken → K → Type 0) where
   PlacedIs spot earlier m = IsPlacedFor spot earlier (machine_of m)
 
 -- a machine of an object at rest of which each step keeps this, and that then ends for this
-module _ {K E : Type 0} (asks : K → Step) (fed : K → ℕ → K) (end : K → Option E) (Is : Spot → List Taken → K → Type 0) (For : Spot → LastStep → E → Type 0)
+module _ {K E : Type 0} (Led : Spot → List Taken → Spot → Type 0) (asks : K → Step) (fed : K → ℕ → K) (end : K → Option E) (Is : Spot → List Taken → K → Type 0) (For : Spot → LastStep → E → Type 0)
     (keeps : (here : Spot) (earlier : List Taken) (m : K) (n : ℕ) → Is here earlier m → Is here (up_to (step_of asks earlier m n)) (fed m n))
     (ends : (here : Spot) (earlier : List Taken) (m : K) (n : ℕ) → Is here earlier m → asks m ≢ Ended → ForSome (end (fed m n)) (For here (step_of asks earlier m n))) where
-  goes_on : (spot : Spot) (earlier : List Taken) (m : K) (n : ℕ) → IsPlacedFor Is spot earlier m → IsPlacedFor Is spot (up_to (step_of asks earlier m n)) (fed m n)
+  goes_on : (spot : Spot) (earlier : List Taken) (m : K) (n : ℕ) → IsPlacedFor Led Is spot earlier m → IsPlacedFor Led Is spot (up_to (step_of asks earlier m n)) (fed m n)
   goes_on spot earlier m n placed =
       let taken : Taken = record { step = asks m; found = n } in
       record {
@@ -123,11 +127,11 @@ module _ {K E : Type 0} (asks : K → Step) (fed : K → ℕ → K) (end : K →
         is = keeps placed.here (header_load placed.here placed.header ∷ placed.rest) m n placed.is;
       }
 
-  pub placed_keeps : (spot : Spot) (earlier : List Taken) (m : Placed K) (n : ℕ) → PlacedIs Is spot earlier m → PlacedIs Is spot (up_to (step_of (asks_of asks) earlier m n)) (fed_of fed m n)
+  pub placed_keeps : (spot : Spot) (earlier : List Taken) (m : Placed K) (n : ℕ) → PlacedIs Led Is spot earlier m → PlacedIs Led Is spot (up_to (step_of (asks_of asks) earlier m n)) (fed_of fed m n)
   placed_keeps spot earlier (placed.Original m) n is = goes_on spot earlier m n is
   placed_keeps spot earlier (placed.Copy s m) n is = goes_on spot earlier m n is
 
-  ends_so : (spot : Spot) (earlier : List Taken) (m : K) (n : ℕ) → IsPlacedFor Is spot earlier m → asks m ≢ Ended → ForSome (end (fed m n)) (EndsPlaced For spot (step_of asks earlier m n))
+  ends_so : (spot : Spot) (earlier : List Taken) (m : K) (n : ℕ) → IsPlacedFor Led Is spot earlier m → asks m ≢ Ended → ForSome (end (fed m n)) (EndsPlaced Led For spot (step_of asks earlier m n))
   ends_so spot earlier m n placed on e is = record {
     here = placed.here;
     approach = placed.approach;
@@ -138,7 +142,7 @@ module _ {K E : Type 0} (asks : K → Step) (fed : K → ℕ → K) (end : K →
     so = ends placed.here (header_load placed.here placed.header ∷ placed.rest) m n placed.is on e is;
   }
 
-  pub placed_ends : (spot : Spot) (earlier : List Taken) (m : Placed K) (n : ℕ) → PlacedIs Is spot earlier m → asks_of asks m ≢ Ended → ForSome (end (machine_of (fed_of fed m n))) (EndsPlaced For spot (step_of (asks_of asks) earlier m n))
+  pub placed_ends : (spot : Spot) (earlier : List Taken) (m : Placed K) (n : ℕ) → PlacedIs Led Is spot earlier m → asks_of asks m ≢ Ended → ForSome (end (machine_of (fed_of fed m n))) (EndsPlaced Led For spot (step_of (asks_of asks) earlier m n))
   placed_ends spot earlier (placed.Original m) n is on = ends_so spot earlier m n is on
   placed_ends spot earlier (placed.Copy s m) n is on = ends_so spot earlier m n is on
 
