@@ -1,4 +1,5 @@
 pub mod CollectorLaws
+pub mod JobLaws
 pub mod RecordLaws
 pub mod beginnings
 pub mod calls

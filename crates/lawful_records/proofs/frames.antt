@@ -1,4 +1,5 @@
 pub mod Hearing
+pub mod JobStays
 pub mod Machines
 pub mod PassStays
 pub mod Regions

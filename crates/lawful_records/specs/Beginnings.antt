@@ -140,10 +140,10 @@ module _ {R W E M : Type 0} (kit : Kit R W E M) where
     pub started_is : started kit l p.pass request ≡ Some next
     pub is : q ≡ record p { pass = next }
 
-  abbrev pub Begins : Sizes → Party R W E → Party R W E → Type 0
+  abbrev pub Begins : Sizes → Party R W E M → Party R W E M → Type 0
   Begins l (party.Pass p) (party.Pass q) = TakesIn p q ⊎ (Puts p q ⊎ Starts l p q)
   Begins l a b = ⊥
 
   -- any number of such beginnings
-  abbrev pub BeginsOn : Sizes → Party R W E → Party R W E → Type 0
+  abbrev pub BeginsOn : Sizes → Party R W E M → Party R W E M → Type 0
   BeginsOn l = Chain (Begins l)

@@ -9,10 +9,6 @@ use Rattle.lawful_records.specs.declared.collector.CollectorMachine.{CollectorMa
 use Rattle.lawful_records.specs.declared.collector.CollectorMachine.TheVariants as collector
 use Rattle.lawful_records.specs.Collectors.{announced_of, before_of, passed_of}
 
--- what is announced
-abbrev pub announced_by : CollectorMachine → Announced
-announced_by k = record { word = announced_of k; before = before_of k; passed = passed_of k }
-
 -- who has acknowledged the cycle's last Copy word: while this is awaited
 abbrev pub told_awaiting : Announcement → Told
 told_awaiting Mark = Nobody
@@ -29,18 +25,27 @@ told_before Copy = Nobody
 told_before Fix = Everybody
 told_before Free = Everybody
 
-abbrev pub told_by : CollectorMachine → Told
-told_by (collector.Announce s) = told_before s.announcement
-told_by (collector.Await s pass m) = told_awaiting s.announcement
-told_by (collector.Done s) = Nobody
+module _ {M : Type 0} where
+  -- what is announced
+  abbrev pub announced_by : CollectorMachine M → Announced
+  announced_by k = record { word = announced_of k; before = before_of k; passed = passed_of k }
 
--- The cycle as copiers see it. Nothing that has moved is given up yet, so its words may be read at all times; no mark is drawn, and no
--- search ends clear.
-abbrev pub cycle_of : CollectorMachine → Cycle
-cycle_of k = record {
-  late = true;
-  phase = stance_at (announced_of k);
-  told = told_by k;
-  mark = None;
-  clear = false;
-}
+  abbrev pub told_by : CollectorMachine M → Told
+  told_by (collector.Announce s) = told_before s.announcement
+  told_by (collector.Await s pass m) = told_awaiting s.announcement
+  told_by (collector.Source s job) = told_before s.announcement
+  told_by (collector.Target s job) = told_before s.announcement
+  told_by (collector.Tag s job) = told_before s.announcement
+  told_by (collector.Move s job m) = told_before s.announcement
+  told_by (collector.Done s) = Nobody
+
+  -- The cycle as copiers see it. Nothing that has moved is given up yet, so its words may be read at all times; no mark is drawn, and no
+  -- search ends clear.
+  abbrev pub cycle_of : CollectorMachine M → Cycle
+  cycle_of k = record {
+    late = true;
+    phase = stance_at (announced_of k);
+    told = told_by k;
+    mark = None;
+    clear = false;
+  }

@@ -1,5 +1,5 @@
 -- What the turn of one party leaves of what the others stand on.
-use Rattle.std.specs.Prelude.{◌≡◌, ◌≢◌, ℕ, ◌⊎◌, IsTrue, List, ◌∷◌, None}
+use Rattle.std.specs.Prelude.{◌≡◌, ◌≢◌, ℕ, ◌<◌, ◌≤◌, ◌⊎◌, IsTrue, List, ◌∷◌, Some, None}
 use Rattle.heap_words.specs.Layouts.{Sizes, IsPass}
 use Rattle.space_reclaim.specs.OwnRegions.{IsOwn}
 use Rattle.heap_history.specs.FixedHeaps.{answer}
@@ -8,12 +8,15 @@ use Rattle.heap_history.specs.NewestFirst.{heap_of_history}
 use Rattle.heap_history.specs.declared.call.Call.{Call}
 use Rattle.barriers.specs.States.{Absent, Plain, Kept, Tagged, IsLive}
 use Rattle.barriers.specs.Spaces.{Space, Holds}
+use Rattle.barriers.specs.Rows.{region_of}
 use Rattle.barriers.specs.Says.{Notices}
 use Rattle.barriers.specs.Cycles.{Cycle, Side}
 use Rattle.barriers.specs.Knowns.{Known}
 use Rattle.barriers.specs.Events.{Keep}
 use Rattle.barriers.specs.Protocols.{Protocol}
-use Rattle.barriers.specs.Objects.{IsSide, IsCall}
+use Rattle.space_reclaim.specs.declared.move_job.MoveJob.{MoveJob}
+use Rattle.barriers.specs.Moves.{Carried, job_of}
+use Rattle.barriers.specs.Objects.{IsSide, IsCall, IsMove}
 use Rattle.barriers.specs.Kits.{Kit}
 
 -- the second history is the first with a change of this pass, which fits the heap before it
@@ -46,17 +49,24 @@ pub record SameRegion (s t : Space) (region : ℕ) : Type 0 where
   pub word : t.region region ≡ s.region region
   pub ends : t.ends region ≡ s.ends region
 
--- what is there has the same header and the same seal
+-- what is there has the same header, the same seal and the same wide object
 pub record IsSameHead (s t : Space) (at : ℕ) : Type 0 where
   pub state : t.state at ≡ s.state at
   pub seal : t.seal at ≡ s.seal at
+  pub wide : t.wide at ≡ s.wide at
   pub head : s.state at ≢ Absent → (t.birth at ≡ s.birth at) × (t.len at ≡ s.len at) × (t.colour at ≡ s.colour at)
 
--- What a turn of a pass leaves at an address: what is there; or a tag has become Kept; or an object begins there.
-pub data Left (P : Protocol) (s t : Space) (at : ℕ) : Type 0 where
-  Same : IsSameHead s t at → Left P s t at
-  Untagged : P.Makes Keep → s.state at ≡ Tagged → t.state at ≡ Kept → t.seal at ≡ s.seal at → Left P s t at
-  Born : s.state at ≡ Absent → t.state at ≡ Plain → t.seal at ≡ None → Left P s t at
+-- What a turn of a pass leaves at an address: what is there; or a tag has become Kept; or an object begins there, in a region of a pass's own.
+pub data Left (P : Protocol) (l : Sizes) (s t : Space) (at : ℕ) : Type 0 where
+  Same : IsSameHead s t at → Left P l s t at
+  Untagged : P.Makes Keep → s.state at ≡ Tagged → t.state at ≡ Kept → t.seal at ≡ s.seal at → t.wide at ≡ s.wide at → Left P l s t at
+  Born : s.state at ≡ Absent → t.state at ≡ Plain → t.seal at ≡ None → l.pool ≤ region_of l at → Left P l s t at
+
+-- And what it leaves to the collector: at each address; of the regions of the pool; and of a move, where no object begins at the copy's place.
+pub record Leaves (P : Protocol) (l : Sizes) (c : Cycle) (s t : Space) : Type 0 where
+  pub left : (at : ℕ) → Left P l s t at
+  pub pool : (region : ℕ) → region < l.pool → SameRegion s t region
+  pub moves : (m : Carried) (j : MoveJob) → job_of m ≡ Some j → (s.state j.to ≡ Absent → t.state j.to ≡ Absent) → IsMove P c s m j → IsMove P c t m j
 
 module _ {R W E M : Type 0} (kit : Kit R W E M) where
   -- The mover is pass m, or the collector with 0; the space goes from s to t, and the notices from n to o.
@@ -67,5 +77,4 @@ module _ {R W E M : Type 0} (kit : Kit R W E M) where
     pub phase : o.phase ≡ n.phase
     pub mark : o.mark ≡ n.mark
     pub regions : (pass region : ℕ) → IsPass l pass → pass ≢ m → IsOwn l pass region → SameRegion s t region
-    pub left : (at : ℕ) → Left kit.protocol s t at
     pub history : Grows m s.history t.history

@@ -1,7 +1,8 @@
 -- What holds of the words and of the records of all parties between any two steps, over any copier. No command and no answer is in it.
 use Rattle.std.specs.Prelude.{◌≡◌, ◌≢◌, ℕ, ◌+◌, ◌*◌, ◌<◌, ◌≤◌, true, List, [], ◌∷◌, ◌++◌, length, map, reverse, sum_by, ◌==◌, if◌then◌else◌, Option, None, IsSome}
 use Rattle.std.specs.List.{All, Contains, filter}
-use Rattle.heap_words.specs.Layouts.{Sizes, IsLayout, IsPass, words_of}
+use Rattle.heap_words.specs.Layouts.{Sizes, IsLayout, IsPass, words_of, first_word}
+use Rattle.lawful_records.specs.declared.job.TheConstants.{EMPTIED}
 use Rattle.heap_words.specs.FieldWords.{IsFieldWord}
 use Rattle.heap_words.specs.declared.field_word.FieldWord.{FieldWord}
 use Rattle.call_steps.specs.StepLaws.{reading}
@@ -33,6 +34,7 @@ use Rattle.lawful_records.specs.declared.collector.CollectorMachine.{CollectorMa
 use Rattle.lawful_records.specs.Handshakes.{IsCollector}
 use Rattle.lawful_records.specs.Collectors.{AreEarlier}
 use Rattle.lawful_records.specs.Cycling.{announced_by, cycle_of}
+use Rattle.lawful_records.specs.JobStands.{stand_of, StandsAt}
 use Rattle.lawful_records.specs.Making.{IsRoom, IsMaking, has_room}
 use Rattle.lawful_records.specs.Records.{view_by, registers_by, room_by, made_by as made_count, number_of, acked_of, side_of, seen_of}
 use Rattle.lawful_records.specs.Beginnings.{call_ended}
@@ -154,36 +156,39 @@ module _ {R W E M : Type 0} (kit : Kit R W E M) where
 
   -- ---- the collector
 
-  pub record IsCollectorRecord (l : Sizes) (k : CollectorMachine) (s : Space) (q : CollectorKnown) : Type 0 where
+  pub record IsCollectorRecord (l : Sizes) (k : CollectorMachine M) (s : Space) (q : CollectorKnown M) : Type 0 where
     pub machine : q.machine ≡ k
     pub cycles : ℕ
     pub few : cycles ≤ 64
-    pub collects : IsCollector l cycles k
+    pub collects : IsCollector l kit.kind cycles k
+    pub job : StandsAt kit l (cycle_of k) s (stand_of k)
     pub awaited : AreEarlier (length s.history) q.awaited
     pub sealed : AreSealed s q.sealed
+    -- until cycles are planned only the common object is ever sealed
+    pub only : All (λ (one : Sealed). one.at ≡ first_word l EMPTIED) q.sealed
 
-  abbrev pub IsParty : Sizes → CollectorMachine → Space → Notices → Party R W E → Type 0
+  abbrev pub IsParty : Sizes → CollectorMachine M → Space → Notices → Party R W E M → Type 0
   IsParty l k s n (party.Pass p) = IsPassRecord l (announced_by k) (cycle_of k) s n p
   IsParty l k s n (party.Collector q) = IsCollectorRecord l k s q
 
   -- ---- all
 
-  abbrev pub is_pass_of : ℕ → Party R W E → ℕ
+  abbrev pub is_pass_of : ℕ → Party R W E M → ℕ
   is_pass_of pass (party.Pass p) = if number_of p == pass then 1 else 0
   is_pass_of pass (party.Collector q) = 0
 
-  abbrev pub is_collector : Party R W E → ℕ
+  abbrev pub is_collector : Party R W E M → ℕ
   is_collector (party.Pass p) = 0
   is_collector (party.Collector q) = 1
 
   -- one record a party
-  pub record AreParties (l : Sizes) (rs : List (Party R W E)) : Type 0 where
+  pub record AreParties (l : Sizes) (rs : List (Party R W E M)) : Type 0 where
     pub many : length rs ≡ l.passes + 1
     pub passes : (pass : ℕ) → IsPass l pass → sum_by (is_pass_of pass) rs ≡ 1
     pub collector : sum_by is_collector rs ≡ 1
 
   -- every party has seen a past of one history, and one of them all of it; each change fits the heap before it, and is a pass's
-  pub record IsHistoryOf (l : Sizes) (h : List Call) (rs : List (Party R W E)) : Type 0 where
+  pub record IsHistoryOf (l : Sizes) (h : List Call) (rs : List (Party R W E M)) : Type 0 where
     pub past : All (λ r. Before (seen_of r) h) rs
     pub shown : Contains (map seen_of rs) h
     pub fits : IsHistory opening (reverse h)
@@ -191,13 +196,13 @@ module _ {R W E M : Type 0} (kit : Kit R W E M) where
 
   -- The words say the space and what is announced and acknowledged; the objects of each region follow each other; the objects are as the copier
   -- and the history have them, and none is on its way by a mark; and each party stands where it is.
-  pub record LawfulRecords (l : Sizes) (words : List ℕ) (rs : List (Party R W E)) : Type 0 where
+  pub record LawfulRecords (l : Sizes) (words : List ℕ) (rs : List (Party R W E M)) : Type 0 where
     pub layout : IsLayout l
     pub width : length words ≡ words_of l
     pub parties : AreParties l rs
     pub space : Space
     pub notices : Notices
-    pub collector : CollectorMachine
+    pub collector : CollectorMachine M
     pub says : Says l (reading words) space notices
     pub announced : notices.phase ≡ (let a = announced_by collector in a.word)
     pub unmarked : notices.mark ≡ 0

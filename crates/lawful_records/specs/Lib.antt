@@ -4,6 +4,8 @@ pub mod Cycling
 pub mod Frames
 pub mod Handshakes
 pub mod HeaderChanges
+pub mod JobStands
+pub mod Jobs
 pub mod LawfulRecords
 pub mod Making
 pub mod Meetings

@@ -8,6 +8,7 @@ use Rattle.space_reclaim.specs.declared.region_word.RegionWord.TheVariants.{Fill
 use Rattle.space_reclaim.specs.RegionWords.{word_of_region}
 use Rattle.barriers.specs.declared.pass.PassRecord.{PassRecord}
 use Rattle.barriers.specs.declared.pass.PassMachine.TheVariants as machine
+use Rattle.barriers.specs.Kits.{Kit}
 use Rattle.barriers.specs.Says.{head_word}
 use Rattle.barriers.specs.States.{Plain}
 use Rattle.lawful_records.specs.Collectors.{collector_of, none_awaited}
@@ -38,11 +39,12 @@ module _ {R W E : Type 0} where
   abbrev pub opening_pass : Sizes → ℕ → PassKnown R W E
   opening_pass l pass = record { pass = opening_record l pass; seen = []; mine = []; ended = [] }
 
-  -- so many passes, from this one on
-  abbrev pub opening_passes : Sizes → ℕ → ℕ → List (Party R W E)
-  opening_passes l pass zero = []
-  opening_passes l pass (suc count) = party.Pass (opening_pass l pass) ∷ opening_passes l (pass + 1) count
+-- so many passes, from this one on
+abbrev pub opening_passes : {R W E M : Type 0} → Sizes → ℕ → ℕ → List (Party R W E M)
+opening_passes l pass zero = []
+opening_passes l pass (suc count) = party.Pass (opening_pass l pass) ∷ opening_passes l (pass + 1) count
 
+module _ {R W E M : Type 0} (kit : Kit R W E M) where
   -- the passes of the layout, and a collector that plays so many cycles
-  abbrev pub opening_parties : Sizes → ℕ → List (Party R W E)
-  opening_parties l cycles = opening_passes l 1 l.passes ++ party.Collector (record { machine = collector_of l cycles; awaited = none_awaited; sealed = [] }) ∷ []
+  abbrev pub opening_parties : Sizes → ℕ → List (Party R W E M)
+  opening_parties l cycles = opening_passes l 1 l.passes ++ party.Collector (record { machine = collector_of kit l cycles; awaited = none_awaited; sealed = [] }) ∷ []

@@ -14,7 +14,7 @@ use Rattle.barriers.specs.Cycles.{Cycle, Side, Handshaken}
 use Rattle.barriers.specs.Objects.{AreObjects, HasLens}
 use Rattle.barriers.specs.Knowns.{Known, spot_of}
 use Rattle.barriers.specs.Kits.{Kit, Stepping}
-use Rattle.lawful_records.specs.Frames.{Beside}
+use Rattle.lawful_records.specs.Frames.{Leaves, Beside}
 use Rattle.lawful_records.specs.LawfulRecords.{IsPassRecord}
 use Rattle.lawful_records.specs.Records.{number_of, known_of}
 use Rattle.lawful_records.specs.Turns.{pass_asks, pass_turned, change_by, front_by, with_change, LooksOn}
@@ -75,6 +75,7 @@ module _ {R W E M : Type 0} (kit : Kit R W E M) (by : Stepping R W E M) where
     pub objects : AreObjects kit.protocol c t
     pub lens : HasLens t
     pub beside : Beside kit l c (number_of p) s t n o
+    pub leaves : Leaves kit.protocol l c s t
     pub history : t.history ≡ with_change (change_in p words) s.history
     pub number : number_of (pass_after s p words) ≡ number_of p
     pub looks : LooksOn (front_by kit by p.pass.machine (found_by p words)) (seal_for s p.pass.machine) s.history p.seen

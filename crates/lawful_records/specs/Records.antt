@@ -78,11 +78,11 @@ module _ {R W E M : Type 0} (kit : Kit R W E M) where
 -- ---- all parties
 
 -- the changes that a party has seen
-abbrev pub seen_of : {R W E : Type 0} → Party R W E → List Call
+abbrev pub seen_of : {R W E M : Type 0} → Party R W E M → List Call
 seen_of (party.Pass p) = p.seen
 seen_of (party.Collector q) = []
 
 -- the history of all: the last change is seen by the one who made it
-abbrev pub history_of : {R W E : Type 0} → List (Party R W E) → List Call
+abbrev pub history_of : {R W E M : Type 0} → List (Party R W E M) → List Call
 history_of [] = []
 history_of (r ∷ rs) = longer (seen_of r) (history_of rs)

@@ -16,6 +16,9 @@ use Rattle.barriers.specs.Knowns.{Known, spot_of, task_of, call_of, front}
 use Rattle.barriers.specs.Protocols.{has_made}
 use Rattle.barriers.specs.Kits.{Kit, Stepping}
 use Rattle.barriers.specs.PassMachines as pass_machines
+use Rattle.space_reclaim.specs.declared.move_job.MoveJob.{MoveJob}
+use Rattle.lawful_records.specs.declared.collector.CollectorMachine.{CollectorMachine}
+use Rattle.lawful_records.specs.Collectors.{seals_of, awaits_behind}
 use Rattle.lawful_records.specs.Collectors as collectors
 use Rattle.lawful_records.specs.Records.{number_of, history_of}
 use Rattle.lawful_records.specs.declared.records.PassKnown.{PassKnown}
@@ -60,14 +63,19 @@ abbrev pub seal_in : List Sealed → ℕ → Option (List Call)
 seal_in [] at = None
 seal_in (one ∷ more) at = if has_word one at then Some one.changes else seal_in more at
 
-abbrev pub sealed_by : {R W E : Type 0} → Party R W E → List Sealed
+abbrev pub sealed_by : {R W E M : Type 0} → Party R W E M → List Sealed
 sealed_by (party.Pass p) = []
 sealed_by (party.Collector q) = q.sealed
 
 -- what is sealed, by the records of all
-abbrev pub sealed_of : {R W E : Type 0} → List (Party R W E) → List Sealed
+abbrev pub sealed_of : {R W E M : Type 0} → List (Party R W E M) → List Sealed
 sealed_of [] = []
 sealed_of (r ∷ rs) = sealed_by r ++ sealed_of rs
+
+-- the seal of a job's object, where this is the history
+abbrev pub sealed_as : Option MoveJob → List Call → List Sealed
+sealed_as None h = []
+sealed_as (Some job) h = record { at = job.from; len = job.len; changes = h } ∷ []
 
 module _ {R W E M : Type 0} (kit : Kit R W E M) (by : Stepping R W E M) where
   -- the step that a pass's machine asks for, and the machine when it was fed
@@ -103,19 +111,30 @@ module _ {R W E M : Type 0} (kit : Kit R W E M) (by : Stepping R W E M) where
         mine = with_change change p.mine;
       }
 
+  -- the step that the collector asks for, and its machine when it was fed
+  abbrev pub collector_asks : CollectorMachine M → Step
+  collector_asks = collectors.asks_of by.move_asks
+
+  abbrev pub collector_fed : CollectorMachine M → ℕ → CollectorMachine M
+  collector_fed = collectors.fed_of kit by.move_fed
+
+  -- what its step seals, where this is the history and it finds this word
+  abbrev pub sealed_now : CollectorMachine M → List Call → ℕ → List Sealed
+  sealed_now k h n = sealed_as (seals_of k (collector_asks k) n) h
+
   -- the collector that took its step
-  abbrev pub collector_turned : List Call → CollectorKnown → ℕ → CollectorKnown
+  abbrev pub collector_turned : List Call → CollectorKnown M → ℕ → CollectorKnown M
   collector_turned h q n = record {
-    machine = collectors.fed_of q.machine n;
-    awaited = collectors.awaits_behind q.machine (collectors.fed_of q.machine n) (length h) q.awaited;
-    sealed = q.sealed;
+    machine = collector_fed q.machine n;
+    awaited = awaits_behind q.machine (collector_fed q.machine n) (length h) q.awaited;
+    sealed = q.sealed ++ sealed_now q.machine h n;
   }
 
-  abbrev pub party_asks : Party R W E → Step
+  abbrev pub party_asks : Party R W E M → Step
   party_asks (party.Pass p) = pass_asks p.pass.machine
-  party_asks (party.Collector q) = collectors.asks_of q.machine
+  party_asks (party.Collector q) = collector_asks q.machine
 
   -- the record after its turn among the others
-  abbrev pub turned : List (Party R W E) → Party R W E → ℕ → Party R W E
+  abbrev pub turned : List (Party R W E M) → Party R W E M → ℕ → Party R W E M
   turned others (party.Pass p) n = party.Pass (pass_turned (seal_in (sealed_of others) (place_of (pass_asks p.pass.machine))) (history_of (party.Pass p ∷ others)) p n)
   turned others (party.Collector q) n = party.Collector (collector_turned (history_of (party.Collector q ∷ others)) q n)

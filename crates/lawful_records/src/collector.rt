@@ -1,14 +1,20 @@
-//! The collector plays its cycles: it announces one phase after another, and awaits behind each announcement the
-//! answer of every pass.
+//! The collector plays its cycles: it announces one phase after another, awaits after each announcement the answer
+//! of every pass, and moves the job of a cycle once all have acknowledged Copy.
 
-ghost use Rattle.std.specs.Prelude.{◌≡◌, ◌≢◌, ◌≤◌};
-ghost use Rattle.heap_words.specs.Layouts.{IsPass};
+ghost use Rattle.std.specs.Prelude.{◌≡◌, ◌≢◌, ◌≤◌, ◌<◌};
+ghost use Rattle.call_steps.specs.declared.step.Step.TheVariants.{Store, Ended as StepEnded};
+ghost use Rattle.heap_words.specs.Layouts.{IsPass, region_at as region_at_in};
+ghost use Rattle.space_reclaim.specs.RegionWords.{IsRegionWord, word_of_region};
 ghost use Rattle.handshakes.specs.PhaseWords.{retired_word, word_of_phase};
-ghost use Rattle.lawful_records.specs.Collectors.{word_of, said_in, phase_of as phase_in, round_of, look as look_at, announce as announce_in, behind_by, awaited as awaited_by, looked as looked_by, collector_of, with_await as with_await_of, awaits_behind};
+ghost use Rattle.lawful_records.specs.Collectors.{word_of, said_in, phase_of as phase_in, round_of, planned as planned_in, look as look_at, announce as announce_in, to_copy as to_copy_by, to_fix as to_fix_by, behind_by, awaited as awaited_by, looked as looked_by, moved_on as moved_on_by, asks_of as asks_by, fed_of as fed_by, seals_of, move_ended as move_ended_by, collector_of, with_await as with_await_of, awaits_behind};
 
+use crate::job::{EMPTIED, FILLED, does_seal, first_job, tagged_word};
+use barriers::{Copier, MoveEnd};
 use call_steps::{Machine, Step};
 use handshakes::{AwaitEnd, AwaitMachine, Phase, PhaseWord};
 use heap_words::Layout;
+use object_headers::Kind;
+use space_reclaim::{MoveJob, RegionWord};
 
 /// What the collector announces in a cycle, in this order.
 #[derive(Clone, Copy, Debug, PartialEq, Eq)]
@@ -20,20 +26,23 @@ pub enum Announcement {
     Free,
 }
 
-/// An announcement of a cycle, where the cycles 1 to `cycles` are played.
+/// An announcement of a cycle, where the cycles 1 to `cycles` are played with a copier of this kind.
 #[derive(Clone, Copy, Debug, PartialEq, Eq)]
 pub struct Stage {
     pub layout: Layout,
+    pub kind: Kind,
     pub cycles: u32,
     /// The number of the cycle; 0 before the first one.
     pub cycle: u32,
     pub announcement: Announcement,
 }
 
-/// Stores the phase word of each announcement, and behind each loads the acknowledgement of one pass after another,
-/// in rising number, again and again until it is the announced word or that of Retired. An await has no bound.
+/// Stores the phase word of each announcement, and after each loads the acknowledgement of one pass after another,
+/// in rising number, again and again until it is the announced word or that of Retired. Before it announces Copy it
+/// tags the object of the cycle's job, and before it announces Fix it moves that object, where the cycle has a job.
+/// Neither an await nor a move has a bound.
 #[derive(Clone, Copy, Debug, PartialEq, Eq)]
-pub enum CollectorMachine {
+pub enum CollectorMachine<M> {
     /// Announces this stage.
     Announce(Stage),
     /// Has announced this stage, and awaits the answer of a pass. The passes before it have answered.
@@ -41,6 +50,27 @@ pub enum CollectorMachine {
         stage: Stage,
         pass: u32,
         machine: AwaitMachine,
+    },
+    /// Stores Source in the word of the region that is emptied. Next it announces this stage, as in the states below.
+    Source {
+        stage: Stage,
+        job: MoveJob,
+    },
+    /// Stores Target in the word of the region to which it copies.
+    Target {
+        stage: Stage,
+        job: MoveJob,
+    },
+    /// Exchanges the header of the job's object from Plain to Tagged.
+    Tag {
+        stage: Stage,
+        job: MoveJob,
+    },
+    /// Moves the object, by this machine.
+    Move {
+        stage: Stage,
+        job: MoveJob,
+        machine: M,
     },
     /// All passes have answered the last stage.
     Done(Stage),
@@ -95,12 +125,12 @@ impl Awaited {
         }
     }
 
-    /// Behind a step of the collector from one machine to another, where there were so many changes: an announcement
+    /// After a step of the collector from one machine to another, where there were so many changes: an announcement
     /// of Mark begins a cycle, and an await may have ended.
-    pub fn behind(
+    pub fn behind<M>(
         self,
-        before: &CollectorMachine,
-        after: &CollectorMachine,
+        before: &CollectorMachine<M>,
+        after: &CollectorMachine<M>,
         changes: u32,
     ) -> Awaited
         ensures { result ≡ awaits_behind before.now after.now changes self }
@@ -114,7 +144,7 @@ impl Awaited {
             (CollectorMachine::Await { stage, .. }, _) => {
                 self.with_await(stage.announcement, changes)
             }
-            (CollectorMachine::Done(_), _) => self,
+            _ => self,
         }
     }
 }
@@ -167,8 +197,33 @@ impl Stage {
         self.announcement.word(self.cycle)
     }
 
+    /// The job of its cycle, if it has one.
+    pub fn job(&self) -> Option<MoveJob>
+        ensures { result ≡ planned_in self.now }
+    {
+        if self.kind == Kind::Chicken && self.layout.pool() >= 2 && self.cycle == 1 {
+            Some(first_job(&self.layout))
+        } else {
+            None
+        }
+    }
+
+    /// The store of what one of the first two regions is used for.
+    #[tactic(auto, using(crate::proofs::JobLaws::region_there))]
+    fn use_region(&self, region: u32, used: RegionWord) -> Step
+        requires first { region < 2 }
+        requires fits { IsRegionWord used }
+        ensures { result ≡ Store (region_at_in self.now.layout region) (word_of_region used) }
+    {
+        prove!(self.layout.passes() >= 1);
+        Step::Store {
+            at: self.layout.region_at(region),
+            put: used.pack(),
+        }
+    }
+
     /// The look at the acknowledgement of a pass.
-    fn look(&self, pass: u32) -> CollectorMachine
+    fn look<M>(&self, pass: u32) -> CollectorMachine<M>
         requires { IsPass self.now.layout pass }
         ensures { result ≡ look_at self.now pass }
     {
@@ -180,7 +235,7 @@ impl Stage {
     }
 
     /// The look at the acknowledgement of the first pass.
-    fn first_look(&self) -> CollectorMachine
+    fn first_look<M>(&self) -> CollectorMachine<M>
         ensures { result ≡ look_at self.now 1 }
     {
         prove!(self.layout.passes() >= 1);
@@ -188,24 +243,50 @@ impl Stage {
     }
 
     /// Another announcement of this cycle.
-    fn announce(&self, announcement: Announcement) -> CollectorMachine
-        ensures { result ≡ announce_in self.now announcement }
+    fn at(&self, announcement: Announcement) -> Stage
+        ensures { result ≡ record self.now { announcement = announcement } }
     {
-        CollectorMachine::Announce(Stage {
+        Stage {
             announcement,
             ..*self
-        })
+        }
+    }
+
+    /// What comes before Copy is announced: the tag of the job's object, if the cycle has a job.
+    fn to_copy<M>(&self) -> CollectorMachine<M>
+        ensures { result ≡ to_copy_by (planned_in self.now) self.now }
+    {
+        let stage = self.at(Announcement::Copy);
+        match self.job() {
+            None => CollectorMachine::Announce(stage),
+            Some(job) => CollectorMachine::Source { stage, job },
+        }
+    }
+
+    /// What comes before Fix is announced: the move of that object.
+    fn to_fix<P: Copier>(&self) -> CollectorMachine<P::Move>
+        ensures { result ≡ to_fix_by P.kit (planned_in self.now) self.now }
+    {
+        let stage = self.at(Announcement::Fix);
+        match self.job() {
+            None => CollectorMachine::Announce(stage),
+            Some(job) => CollectorMachine::Move {
+                stage,
+                job,
+                machine: P::move_one(&self.layout, job, 0),
+            },
+        }
     }
 
     /// What comes when all passes have answered.
-    fn behind(&self) -> CollectorMachine
-        ensures { result ≡ behind_by self.now.announcement self.now }
+    fn behind<P: Copier>(&self) -> CollectorMachine<P::Move>
+        ensures { result ≡ behind_by P.kit self.now.announcement self.now }
     {
         match self.announcement {
-            Announcement::Mark => self.announce(Announcement::Confirm),
-            Announcement::Confirm => self.announce(Announcement::Copy),
-            Announcement::Copy => self.announce(Announcement::Fix),
-            Announcement::Fix => self.announce(Announcement::Free),
+            Announcement::Mark => CollectorMachine::Announce(self.at(Announcement::Confirm)),
+            Announcement::Confirm => self.to_copy(),
+            Announcement::Copy => self.to_fix::<P>(),
+            Announcement::Fix => CollectorMachine::Announce(self.at(Announcement::Free)),
             Announcement::Free if self.cycle < self.cycles => {
                 CollectorMachine::Announce(Stage {
                     cycle: self.cycle + 1,
@@ -218,21 +299,26 @@ impl Stage {
     }
 
     /// What comes when this pass and those before it have answered.
-    fn awaited(&self, pass: u32) -> CollectorMachine
-        ensures { result ≡ awaited_by self.now pass }
+    fn awaited<P: Copier>(&self, pass: u32) -> CollectorMachine<P::Move>
+        ensures { result ≡ awaited_by P.kit self.now pass }
     {
         if pass < self.layout.passes() {
             return self.look(pass + 1);
         }
-        self.behind()
+        self.behind::<P>()
     }
 
     /// What comes when a look at this pass has ended. Without an answer the next look is the same one.
-    fn looked(&self, pass: u32, look: AwaitMachine, end: Option<AwaitEnd>) -> CollectorMachine
-        ensures { result ≡ looked_by self.now pass look end }
+    fn looked<P: Copier>(
+        &self,
+        pass: u32,
+        look: AwaitMachine,
+        end: Option<AwaitEnd>,
+    ) -> CollectorMachine<P::Move>
+        ensures { result ≡ looked_by P.kit self.now pass look end }
     {
         match end {
-            Some(AwaitEnd::Answered) | Some(AwaitEnd::Retired) => self.awaited(pass),
+            Some(AwaitEnd::Answered) | Some(AwaitEnd::Retired) => self.awaited::<P>(pass),
             Some(AwaitEnd::NotYet { .. }) | None => CollectorMachine::Await {
                 stage: *self,
                 pass,
@@ -240,60 +326,148 @@ impl Stage {
             },
         }
     }
-}
 
-impl CollectorMachine {
-    /// The collector before the first of so many cycles; with none it is done.
-    pub fn new(layout: &Layout, cycles: u32) -> CollectorMachine
+    /// What comes after a step of the move: the next one, or the announcement when it has ended.
+    fn moved<P: Copier>(&self, job: MoveJob, machine: P::Move) -> CollectorMachine<P::Move>
+    where
+        P::Move: Copy,
+        ensures { result ≡ moved_on_by P.kit self.now job machine }
+    {
+        match P::move_end(&machine) {
+            Some(_) => CollectorMachine::Announce(*self),
+            None => CollectorMachine::Move {
+                stage: *self,
+                job,
+                machine,
+            },
+        }
+    }
+
+    /// The collector of a copier before the first of so many cycles; with none it is done.
+    pub fn first<P: Copier>(layout: &Layout, cycles: u32) -> CollectorMachine<P::Move>
         requires { cycles ≤ 64 }
-        ensures { result ≡ collector_of layout.now cycles }
+        ensures { result ≡ collector_of P.kit layout.now cycles }
     {
         let stage = Stage {
             layout: *layout,
+            kind: P::KIND,
             cycles,
             cycle: 0,
             announcement: Announcement::Free,
         };
-        stage.behind()
+        stage.behind::<P>()
     }
 }
 
-impl Machine for CollectorMachine {
-    ghost use Rattle.lawful_records.specs.Collectors.{asks_of, fed_of, blind_of};
-
-    ghost asks = { asks_of };
-
-    ghost fed = { fed_of };
-
-    ghost blind = { blind_of };
-
-    fn ask(&self) -> Step {
+impl<M: Machine> CollectorMachine<M> {
+    /// The step that it takes next.
+    pub fn ask(&self) -> Step
+        ensures { result ≡ asks_by M.asks self.now }
+    {
         match self {
             CollectorMachine::Announce(stage) => Step::Store {
                 at: stage.layout.phase_at(),
                 put: stage.word(),
             },
             CollectorMachine::Await { machine, .. } => machine.ask(),
+            CollectorMachine::Source { stage, .. } => stage.use_region(EMPTIED, RegionWord::Source),
+            CollectorMachine::Target { stage, .. } => stage.use_region(FILLED, RegionWord::Target),
+            CollectorMachine::Tag { job, .. } => Step::Exchange {
+                at: job.from,
+                want: job.header,
+                put: tagged_word(job.header),
+            },
+            CollectorMachine::Move { machine, .. } => machine.ask(),
             CollectorMachine::Done(_) => Step::Ended,
         }
     }
 
-    fn feed(&mut self, found: u64) {
-        *self = match *self {
-            CollectorMachine::Announce(stage) => stage.first_look(),
-            CollectorMachine::Await {
-                stage,
-                pass,
-                machine,
-            } => {
-                let mut fed = machine;
-                fed.feed(found);
-                stage.looked(pass, machine, fed.end())
-            }
-            CollectorMachine::Done(stage) => CollectorMachine::Done(stage),
-        };
+    /// The object that its next step seals, where this step finds this word.
+    pub fn sealed(&self, step: Step, found: u64) -> Option<MoveJob>
+        ensures { result ≡ seals_of self.now step found }
+    {
+        match self {
+            CollectorMachine::Move { job, .. } if does_seal(job.from, step, found) => Some(*job),
+            _ => None,
+        }
     }
 }
 
-#[cfg(test)]
-mod tests;
+/// The collector's machine goes on from the word that its step found.
+pub fn feed_collector<P: Copier>(collector: &mut CollectorMachine<P::Move>, found: u64)
+where
+    P::Move: Copy,
+    requires { asks_by P.Move.asks collector.old ≢ StepEnded }
+    ensures { collector.new ≡ fed_by P.kit P.Move.fed collector.old found }
+{
+    *collector = match *collector {
+        CollectorMachine::Announce(stage) => stage.first_look(),
+        CollectorMachine::Await {
+            stage,
+            pass,
+            machine,
+        } => {
+            let mut fed = machine;
+            fed.feed(found);
+            stage.looked::<P>(pass, machine, fed.end())
+        }
+        CollectorMachine::Source { stage, job } => CollectorMachine::Target { stage, job },
+        CollectorMachine::Target { stage, job } => CollectorMachine::Tag { stage, job },
+        CollectorMachine::Tag { stage, .. } => CollectorMachine::Announce(stage),
+        CollectorMachine::Move {
+            stage,
+            job,
+            machine,
+        } => {
+            let mut fed = machine;
+            fed.feed(found);
+            stage.moved::<P>(job, fed)
+        }
+        CollectorMachine::Done(stage) => CollectorMachine::Done(stage),
+    };
+}
+
+/// The collector's machine with a copier, as the machine that it is.
+pub struct CycleMachine<P: Copier> {
+    pub collector: CollectorMachine<P::Move>,
+}
+
+impl<P: Copier> Machine for CycleMachine<P>
+where
+    P::Move: Copy,
+{
+    ghost use Rattle.lawful_records.specs.Collectors.{asks_of, fed_of, blind_of, alike};
+
+    ghost asks = { λ m. asks_of P.Move.asks m.collector };
+
+    ghost fed = { λ m found. record { collector = fed_of P.kit P.Move.fed m.collector found } };
+
+    ghost blind = { λ m at put n is. alike (λ k. record { collector = k }) _ _
+        (blind_of P.kit P.Move.asks P.Move.fed P.Move.blind m.collector at put n is) };
+
+    fn ask(&self) -> Step {
+        self.collector.ask()
+    }
+
+    fn feed(&mut self, found: u64) {
+        feed_collector::<P>(&mut self.collector, found);
+    }
+}
+
+/// What the move that it is in ends with, if it ends by its next step, which finds this word.
+pub fn move_end_of<P: Copier>(
+    collector: &CollectorMachine<P::Move>,
+    found: u64,
+) -> Option<(MoveJob, MoveEnd)>
+where
+    P::Move: Copy,
+    requires { asks_by P.Move.asks collector.now ≢ StepEnded }
+    ensures { result ≡ move_ended_by P.kit P.Move.fed collector.now found }
+{
+    let CollectorMachine::Move { job, machine, .. } = *collector else {
+        return None;
+    };
+    let mut fed = machine;
+    fed.feed(found);
+    Some((job, P::move_end(&fed)?))
+}

@@ -27,16 +27,16 @@ pub struct Sealed {
 }
 
 /// What is known of the collector.
-pub struct CollectorKnown {
-    pub machine: CollectorMachine,
+pub struct CollectorKnown<M> {
+    pub machine: CollectorMachine<M>,
     /// How many changes there were when the awaits of the running cycle ended.
     pub awaited: Awaited,
-    /// The objects that are sealed.
+    /// The objects that are sealed, in the order of their seals.
     pub sealed: LinkedList<Sealed>,
 }
 
 /// What is known of a party.
-pub enum Party<R, W, E> {
+pub enum Party<R, W, E, M> {
     Pass(PassKnown<R, W, E>),
-    Collector(CollectorKnown),
+    Collector(CollectorKnown<M>),
 }

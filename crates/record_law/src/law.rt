@@ -18,16 +18,16 @@ pub struct Records<P> {
     copier: PhantomData<P>,
 }
 
-impl<P: Copier> Lawful<Party<P::Read, P::Write, P::Exchange>, Opening> for Records<P> {
+impl<P: Copier> Lawful<Party<P::Read, P::Write, P::Exchange, P::Move>, Opening> for Records<P> {
     ghost use Rattle.lawful_records.specs.Opening.{opening_parties};
     ghost use Rattle.lawful_records.specs.LawfulRecords.{LawfulRecords};
 
     ghost lawful = { λ k ws rs. LawfulRecords P.kit k.layout ws rs };
 
-    ghost opening = { λ k. opening_parties k.layout k.cycles };
+    ghost opening = { λ k. opening_parties P.kit k.layout k.cycles };
 }
 
-impl<P: Copier> Law<Party<P::Read, P::Write, P::Exchange>, Opening> for Records<P> {
+impl<P: Copier> Law<Party<P::Read, P::Write, P::Exchange, P::Move>, Opening> for Records<P> {
     ghost use Rattle.std.specs.Prelude.{◌+◌};
     ghost use Rattle.heap_words.specs.Layouts.{words_of};
     ghost use Rattle.lawful_records.specs.Running.{steps_of};

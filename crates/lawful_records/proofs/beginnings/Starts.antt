@@ -29,7 +29,7 @@ some_mapped : {A B : Type 0} → (f : A → B) (o : Option A) (b : B) → option
 some_mapped f None b is = absurd cc
 some_mapped f (Some x) b is = (x, refl, let same : f x ≡ b = cc in same)
 
-module _ {R W E M : Type 0} (kit : Kit R W E M) (by : Stepping R W E M) (laws : Laws kit by) (l : Sizes) (ws : List ℕ) (p : PassKnown R W E) (others : List (Party R W E)) (w : LawfulRecords kit l ws (party.Pass p ∷ others)) where
+module _ {R W E M : Type 0} (kit : Kit R W E M) (by : Stepping R W E M) (laws : Laws kit by) (l : Sizes) (ws : List ℕ) (p : PassKnown R W E) (others : List (Party R W E M)) (w : LawfulRecords kit l ws (party.Pass p ∷ others)) where
   standing : Standing kit l w.space w.notices
   standing = record { layout = w.layout; memory = reading ws; says = w.says; rows = w.rows }
 
@@ -65,17 +65,17 @@ module _ {R W E M : Type 0} (kit : Kit R W E M) (by : Stepping R W E M) (laws : 
         own = begun_record kit by laws l (announced_by w.collector) (cycle_of w.collector) w.space w.notices refl standing p idle start.request to.0 start.fits to.1;
       })
 
-  begins : (q : Party R W E) → Begins kit l (party.Pass p) q → LawfulRecords kit l ws (q ∷ others)
+  begins : (q : Party R W E M) → Begins kit l (party.Pass p) q → LawfulRecords kit l ws (q ∷ others)
   begins (party.Pass q) (inl takes) = assemble_begun kit l ws p q others w (takes_in q takes)
   begins (party.Pass q) (inr (inl put)) = assemble_begun kit l ws p q others w (puts q put)
   begins (party.Pass q) (inr (inr start)) = assemble_begun kit l ws p q others w (starts q start)
   begins (party.Collector q) begin = absurd begin
 
-module _ {R W E M : Type 0} (kit : Kit R W E M) (by : Stepping R W E M) (laws : Laws kit by) (l : Sizes) (ws : List ℕ) (others : List (Party R W E)) where
-  begins_once : (r now : Party R W E) → LawfulRecords kit l ws (r ∷ others) → Begins kit l r now → LawfulRecords kit l ws (now ∷ others)
+module _ {R W E M : Type 0} (kit : Kit R W E M) (by : Stepping R W E M) (laws : Laws kit by) (l : Sizes) (ws : List ℕ) (others : List (Party R W E M)) where
+  begins_once : (r now : Party R W E M) → LawfulRecords kit l ws (r ∷ others) → Begins kit l r now → LawfulRecords kit l ws (now ∷ others)
   begins_once (party.Pass p) now w begin = begins kit by laws l ws p others w now begin
   begins_once (party.Collector q) now w begin = absurd begin
 
   -- one thing after another
-  pub begins_on : (r now : Party R W E) → LawfulRecords kit l ws (r ∷ others) → BeginsOn kit l r now → LawfulRecords kit l ws (now ∷ others)
-  begins_on r now w chain = along (λ (x : Party R W E). LawfulRecords kit l ws (x ∷ others)) begins_once w chain
+  pub begins_on : (r now : Party R W E M) → LawfulRecords kit l ws (r ∷ others) → BeginsOn kit l r now → LawfulRecords kit l ws (now ∷ others)
+  begins_on r now w chain = along (λ (x : Party R W E M). LawfulRecords kit l ws (x ∷ others)) begins_once w chain

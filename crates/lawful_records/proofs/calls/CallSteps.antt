@@ -12,7 +12,7 @@ use Rattle.barriers.specs.Cycles.{Cycle}
 use Rattle.barriers.specs.Objects.{AreObjects, HasLens, IsSide, IsCall}
 use Rattle.barriers.specs.Knowns.{Known, spot_of, task_of}
 use Rattle.barriers.specs.Kits.{Kit, own_of}
-use Rattle.lawful_records.specs.Frames.{Grows, SeenBy, SameRegion, Left}
+use Rattle.lawful_records.specs.Frames.{Grows, SeenBy, SameRegion, Leaves}
 use Rattle.lawful_records.specs.LawfulRecords.{IsUnborn}
 use Rattle.lawful_records.specs.Meetings.{HasSpot}
 use Rattle.lawful_records.specs.Turns.{change_call, with_change, seen_by, LooksOn}
@@ -52,7 +52,7 @@ module _ {R W E M : Type 0} (kit : Kit R W E M) where
     pub rows : Rows l t.state t.len t.ends t.region
     pub objects : AreObjects kit.protocol c t
     pub lens : HasLens t
-    pub left : (at : ℕ) → Left kit.protocol s t at
+    pub leaves : Leaves kit.protocol l c s t
     pub others : SeenBy kit.protocol c s t
     pub regions : (region : ℕ) → SameRegion s t region
     pub change_is : change ≡ change_call next v.pass

@@ -41,7 +41,7 @@ use Rattle.lawful_records.specs.Turns.{change_call, with_change, seen_by, LooksO
 use Rattle.lawful_records.proofs.calls.Changes.{put_change, change_as, grown_as, reply_changes, ends_so, unborn_call}
 use Rattle.lawful_records.proofs.calls.CallSteps.{SameCall, CallStands, CallGoes}
 use Rattle.barriers.proofs.words.Sets.{set_cases}
-use Rattle.lawful_records.proofs.frames.PassStays.{head_same}
+use Rattle.lawful_records.proofs.frames.JobStays.{head_same}
 use Rattle.lawful_records.proofs.telling.Meeting.{spot_later, hand_from, hand_found}
 use Rattle.lawful_records.proofs.telling.Replies.{EndsSo}
 use Rattle.lawful_records.proofs.telling.Turning.{seen_grows, pass_of_call}
@@ -49,16 +49,16 @@ use Rattle.lawful_records.proofs.turns.Holding.{side_at}
 use Rattle.lawful_records.proofs.frames.SeenTurns.{seen_by_others}
 
 -- of each address what is there is left, or its tag is Kept; and of each region its use and its end
-record Leaves (P : Protocol) (s t : Space) : Type 0 where
-  at : (a : ℕ) → Left P s t a
+record StaysHere (P : Protocol) (l : Sizes) (s t : Space) : Type 0 where
+  at : (a : ℕ) → Left P l s t a
   region : (k : ℕ) → t.region k ≡ s.region k
   ends : (k : ℕ) → t.ends k ≡ s.ends k
 
 -- where a tag is Kept
-keeps : (P : Protocol) (s : Space) (z : ℕ) → P.Makes Keep → s.state z ≡ Tagged → (a : ℕ) → Left P s (put_state s z Kept) a
-keeps P s z makes tagged a = elim (set_cases s.state z a Kept) [
-  | inl here ↦ Untagged makes (ap s.state here.0 ∙ tagged) here.1 refl
-  | inr there ↦ Same (record { state = there.1; seal = refl; head = λ is. (refl, refl, refl) })
+keeps : (P : Protocol) (l : Sizes) (s : Space) (z : ℕ) → P.Makes Keep → s.state z ≡ Tagged → (a : ℕ) → Left P l s (put_state s z Kept) a
+keeps P l s z makes tagged a = elim (set_cases s.state z a Kept) [
+  | inl here ↦ Untagged makes (ap s.state here.0 ∙ tagged) here.1 refl refl
+  | inr there ↦ Same (record { state = there.1; seal = refl; wide = refl; head = λ is. (refl, refl, refl) })
 ]
 
 written : (x : State) → (x ≡ Plain) ⊎ (x ≡ Underway) → IsWritten x
@@ -121,17 +121,17 @@ module _ {R W E M : Type 0} (kit : Kit R W E M) (table : ProtocolLaws kit.protoc
 
     -- ---- the space and the history
 
-    all_left : Leaves P s s
+    all_left : StaysHere P l s s
     all_left = record { at = λ a. Same (head_same s a); region = λ r. refl; ends = λ r. refl }
 
-    leaves : Outcome k found → Leaves P s t
+    leaves : Outcome k found → StaysHere P l s t
     leaves (Still ev e) = rw ev all_left
-    leaves (Keeping ev e) = rw ev (record { at = keeps P s (spot_of k).at (subst P.Makes ev end.makes) (subst (May c x) ev end.may); region = λ r. refl; ends = λ r. refl })
-    leaves (Putting w ev e) = rw ev (record { at = λ a. Same (record { state = refl; seal = refl; head = λ is. (refl, refl, refl) }); region = λ r. refl; ends = λ r. refl })
-    leaves (Putting_copy w ev e) = rw ev (record { at = λ a. Same (record { state = refl; seal = refl; head = λ is. (refl, refl, refl) }); region = λ r. refl; ends = λ r. refl })
-    leaves (Widening w ev e) = rw ev (record { at = λ a. Same (record { state = refl; seal = refl; head = λ is. (refl, refl, refl) }); region = λ r. refl; ends = λ r. refl })
+    leaves (Keeping ev e) = rw ev (record { at = keeps P l s (spot_of k).at (subst P.Makes ev end.makes) (subst (May c x) ev end.may); region = λ r. refl; ends = λ r. refl })
+    leaves (Putting w ev e) = rw ev (record { at = λ a. Same (record { state = refl; seal = refl; wide = refl; head = λ is. (refl, refl, refl) }); region = λ r. refl; ends = λ r. refl })
+    leaves (Putting_copy w ev e) = rw ev (record { at = λ a. Same (record { state = refl; seal = refl; wide = refl; head = λ is. (refl, refl, refl) }); region = λ r. refl; ends = λ r. refl })
+    leaves (Widening w ev e) = rw ev (record { at = λ a. Same (record { state = refl; seal = refl; wide = refl; head = λ is. (refl, refl, refl) }); region = λ r. refl; ends = λ r. refl })
 
-    left : Leaves P s t
+    left : StaysHere P l s t
     left = leaves (outcome k found)
 
     told_by : Outcome k found → t.history ≡ history_after c s side k
@@ -205,7 +205,11 @@ module _ {R W E M : Type 0} (kit : Kit R W E M) (table : ProtocolLaws kit.protoc
         rows = rows_after l c side s k stands.rows at_its_word;
         objects = made.objects;
         lens = made.lens;
-        left = left.at;
+        leaves = record {
+          left = left.at;
+          pool = λ region low. record { word = left.region region; ends = left.ends region };
+          moves = λ m j job absent is. made.moves m j job is;
+        };
         looks = looks_on;
         others = seen_by_others P table c s t stands.objects made.seen;
         regions = λ region. record { word = left.region region; ends = left.ends region };

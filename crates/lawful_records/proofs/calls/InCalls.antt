@@ -186,9 +186,9 @@ module _ {R W E M : Type 0} (kit : Kit R W E M) where
             phase = refl;
             mark = refl;
             regions = λ pass region is other own. goes.regions region;
-            left = goes.left;
             history = rw same_number goes.grows;
           };
+          leaves = goes.leaves;
           history = goes.history;
           number = number_after;
           looks = subst (λ (seal : Option (List Call)). LooksOn (front_by kit by m found) seal s.history p.seen) (sym its_seal) goes.looks;

@@ -28,13 +28,13 @@ use Rattle.barriers.specs.Protocols.{OnHand, AnswersSo, Suits, has_made}
 use Rattle.barriers.specs.Kits.{Kit}
 use Rattle.barriers.proofs.words.Calls.{holds_fits}
 use Rattle.barriers.proofs.words.Frames.{says_same, put_same}
-use Rattle.lawful_records.specs.Frames.{Same}
 use Rattle.lawful_records.specs.LawfulRecords.{IsMoved}
 use Rattle.lawful_records.specs.Meetings.{FitsHand}
 use Rattle.lawful_records.specs.Turns.{change_call}
 use Rattle.lawful_records.proofs.calls.Changes.{change_none}
 use Rattle.lawful_records.proofs.calls.CallSteps.{SameCall, CallStands, CallGoes}
-use Rattle.lawful_records.proofs.frames.PassStays.{head_same, seen_same}
+use Rattle.lawful_records.proofs.frames.PassStays.{seen_same}
+use Rattle.lawful_records.proofs.frames.JobStays.{leaves_same}
 use Rattle.lawful_records.proofs.parties.Pasts.{looks_not}
 use Rattle.lawful_records.proofs.telling.Meeting.{spot_later}
 use Rattle.lawful_records.proofs.telling.Replies.{EndsSo}
@@ -83,7 +83,7 @@ module _ {R W E M : Type 0} (kit : Kit R W E M) (l : Sizes) (c : Cycle) (s : Spa
       rows = stands.rows;
       objects = stands.objects;
       lens = stands.lens;
-      left = λ a. Same (head_same s a);
+      leaves = leaves_same kit.protocol l c s;
       looks = looks_not seal s.history seen stands.side.past;
       others = seen_same kit.protocol c s;
       regions = λ region. record { word = refl; ends = refl };

@@ -120,7 +120,7 @@ module _ {R W E M : Type 0} (kit : Kit R W E M) (by : Stepping R W E M) (laws : 
   SeesBy p m = (seal : Option (List Call)) → IsSealAt s (place_of (pass_asks kit by m)) seal
       → front (front_by kit by m (slice_index words (place_of (pass_asks kit by m)))) seal s.history p.seen ≡ front (front_by kit by m (slice_index words (place_of (pass_asks kit by m)))) (seal_for kit by s m) s.history p.seen
 
-  sees_so : (p : PassKnown R W E) (m : PassMachine R W E) → PassStands kit by l a c s n (in_machine p m) words → pass_asks kit by m ≢ Ended → SeesBy p m
+  pub sees_so : (p : PassKnown R W E) (m : PassMachine R W E) → PassStands kit by l a c s n (in_machine p m) words → pass_asks kit by m ≢ Ended → SeesBy p m
   sees_so p (machine.Read m) stands on seal is =
       machine_sees kit laws.table by.read_asks by.read_fed by.read_front kit.reads kit.ReadsFor kit.read_ended read_said laws.reading l c s n (reading words) p.pass.view p.seen m stands.own.machine.1
       (read_stands kit by laws l a c s n p words m stands) on seal is s.history

@@ -2,6 +2,7 @@
 use Rattle.std.specs.Prelude.{IsSome}
 use Rattle.std.proofs.Common.{◌≡◌, ◌≢◌, ℕ, ◌^◌, ◌<◌, ◌≤◌, ◌⊎◌, inl, inr, Option, None, refl, sym, ap, ◌∙◌, subst, arith}
 use Rattle.heap_words.specs.Layouts.{Sizes, IsPass}
+use Rattle.object_headers.specs.declared.change.Kind.{Kind}
 use Rattle.handshakes.specs.declared.phase_word.PhaseWord.{PhaseWord}
 use Rattle.handshakes.specs.PhaseWords.{phase_word_of, retired_word}
 use Rattle.handshakes.specs.PhaseWordLaws.{phase_word_of-word_of_phase, phase_word_at-word_of_phase}
@@ -15,8 +16,8 @@ use Rattle.lawful_records.specs.declared.collector.Stage.{Stage}
 use Rattle.lawful_records.specs.declared.collector.CollectorMachine.{CollectorMachine}
 use Rattle.lawful_records.specs.declared.collector.CollectorMachine.TheVariants as collector
 use Rattle.lawful_records.specs.Collectors.{said_in, said_of, word_of, before_by, stage_before, stage_of}
-use Rattle.lawful_records.specs.Cycling.{announced_by, cycle_of, told_before, told_awaiting}
-use Rattle.lawful_records.specs.Handshakes.{IsCollector}
+use Rattle.lawful_records.specs.Cycling.{announced_by, cycle_of, told_by, told_before, told_awaiting}
+use Rattle.lawful_records.specs.Handshakes.{IsStage, IsCollector}
 use Rattle.lawful_records.specs.PassTurns.{IsAnnounced}
 use Rattle.lawful_records.proofs.CollectorLaws.{runs, fits}
 
@@ -93,12 +94,10 @@ none_own stances.Retired = refl
 
 -- ---- each collector
 
-module _ (l : Sizes) (cycles : ℕ) (few : cycles ≤ 64) where
+module _ (l : Sizes) (kind : Kind) (cycles : ℕ) (few : cycles ≤ 64) where
   -- the stage that is announced is of a small cycle
-  stage_small : (k : CollectorMachine) → IsCollector l cycles k → (let s = stage_of k in s.cycle) ≤ 64
-  stage_small (collector.Announce s) is = ahead_cycle s.announcement s 64 (omega (arith, few, is.last))
-  stage_small (collector.Await s pass m) is = omega (arith, few, is.stage.last)
-  stage_small (collector.Done s) is = omega (arith, few, is.last)
+  before_small : (s : Stage) → IsStage l kind cycles s → (let b = stage_before s in b.cycle) ≤ 64
+  before_small s is = ahead_cycle s.announcement s 64 (omega (arith, few, is.last))
 
   -- an answer that is the announced word, or that of the stage before
   awaited_told : (s : Stage) (side : Side) (word : ℕ) → s.cycle ≤ 64 → side.acked ≡ stance_at word → (word ≡ word_of s) ⊎ (word ≡ word_of (stage_before s)) → ToldFits (told_awaiting s.announcement) side.acked
@@ -109,15 +108,33 @@ module _ (l : Sizes) (cycles : ℕ) (few : cycles ≤ 64) where
         (awaiting_fits s.announcement (let b = stage_before s in b.announcement) (inr (ahead_is s.announcement s)))
   ]
 
-  told_shaken : (k : CollectorMachine) → IsCollector l cycles k → (side : Side) (word : ℕ) → IsPass l side.pass → Answers (announced_by k) side.pass word → word ≢ retired_word → side.acked ≡ stance_at word → ToldFits (let c = cycle_of k in c.told) side.acked
-  told_shaken (collector.Announce s) is side word there answers runs acked =
+  -- before the next stage is announced, all have answered the one before it
+  before_told : (s : Stage) → IsStage l kind cycles s → (side : Side) (word : ℕ) → IsPass l side.pass → Answers (record { word = word_of (stage_before s); before = word_of (stage_before (stage_before s)); passed = s.layout.passes }) side.pass word → word ≢ retired_word → side.acked ≡ stance_at word → ToldFits (told_before s.announcement) side.acked
+  before_told s is side word there answers runs acked =
       let passes : s.layout.passes ≡ l.passes = ap (λ (t : Sizes). t.passes) is.layout in
       let is_word : word ≡ word_of (stage_before s) = elim answers [ inl ended ↦ absurd (runs ended) | inr rest ↦ elim rest [ inl same ↦ same | inr waits ↦ absurd (omega (arith, passes, waits.1, there.1)) ] ] in
       let stance : side.acked ≡ stance_by (ahead s.announcement) =
-      acked ∙ ap stance_at is_word ∙ stance_word (stage_before s) (omega (arith, ahead_cycle s.announcement s 64 (omega (arith, few, is.last)))) ∙ ap stance_by (ahead_is s.announcement s) in
+      acked ∙ ap stance_at is_word ∙ stance_word (stage_before s) (omega (arith, before_small s is)) ∙ ap stance_by (ahead_is s.announcement s) in
       subst (ToldFits (told_before s.announcement)) (sym stance) (before_fits s.announcement)
+
+module _ {M : Type 0} (l : Sizes) (kind : Kind) (cycles : ℕ) (few : cycles ≤ 64) where
+  stage_small : (k : CollectorMachine M) → IsCollector l kind cycles k → (let s = stage_of k in s.cycle) ≤ 64
+  stage_small (collector.Announce s) is = before_small l kind cycles few s is
+  stage_small (collector.Await s pass m) is = omega (arith, few, is.stage.last)
+  stage_small (collector.Source s job) is = before_small l kind cycles few s is.stage
+  stage_small (collector.Target s job) is = before_small l kind cycles few s is.stage
+  stage_small (collector.Tag s job) is = before_small l kind cycles few s is.stage
+  stage_small (collector.Move s job m) is = before_small l kind cycles few s is.stage
+  stage_small (collector.Done s) is = omega (arith, few, is.last)
+
+  told_shaken : (k : CollectorMachine M) → IsCollector l kind cycles k → (side : Side) (word : ℕ) → IsPass l side.pass → Answers (announced_by k) side.pass word → word ≢ retired_word → side.acked ≡ stance_at word → ToldFits (told_by k) side.acked
+  told_shaken (collector.Announce s) is side word there answers runs acked = before_told l kind cycles few s is side word there answers runs acked
+  told_shaken (collector.Source s job) is side word there answers runs acked = before_told l kind cycles few s is.stage side word there answers runs acked
+  told_shaken (collector.Target s job) is side word there answers runs acked = before_told l kind cycles few s is.stage side word there answers runs acked
+  told_shaken (collector.Tag s job) is side word there answers runs acked = before_told l kind cycles few s is.stage side word there answers runs acked
+  told_shaken (collector.Move s job m) is side word there answers runs acked = before_told l kind cycles few s is.stage side word there answers runs acked
   told_shaken (collector.Await s pass m) is side word there answers runs acked =
-      awaited_told s side word (omega (arith, few, is.stage.last)) acked (elim answers [ inl ended ↦ absurd (runs ended) | inr rest ↦ elim rest [ inl same ↦ inl same | inr waits ↦ inr waits.0 ] ])
+      awaited_told l kind cycles few s side word (omega (arith, few, is.stage.last)) acked (elim answers [ inl ended ↦ absurd (runs ended) | inr rest ↦ elim rest [ inl same ↦ inl same | inr waits ↦ inr waits.0 ] ])
   told_shaken (collector.Done s) is side word there answers runs acked =
       let passes : s.layout.passes ≡ l.passes = ap (λ (t : Sizes). t.passes) is.layout in
       let is_word : word ≡ word_of s = elim answers [ inl ended ↦ absurd (runs ended) | inr rest ↦ elim rest [ inl same ↦ same | inr waits ↦ absurd (omega (arith, passes, waits.1, there.1)) ] ] in
@@ -125,7 +142,7 @@ module _ (l : Sizes) (cycles : ℕ) (few : cycles ≤ 64) where
       subst (ToldFits Nobody) (sym stance) (λ told. told)
 
   -- what a collector has announced is as passes need it
-  pub announced_is : (k : CollectorMachine) → IsCollector l cycles k → IsAnnounced l (announced_by k) (cycle_of k)
+  pub announced_is : (k : CollectorMachine M) → IsCollector l kind cycles k → IsAnnounced l (announced_by k) (cycle_of k)
   announced_is k is = record {
     runs = let s = stage_of k in runs s.announcement s.cycle;
     phase = phase_word (stage_of k) (omega (arith, stage_small k is));

@@ -101,13 +101,13 @@ module _ {R W E M : Type 0} (kit : Kit R W E M) where
     waits : Polls p.pass.machine → (let view = p.pass.view in view.acked) ≢ n.phase → (o.phase ≡ n.phase) × (o.mark ≡ n.mark)
     waits polls apart = let runs = polls_acked p.pass.view p.pass.machine polls is.answering.retired in hears.waits runs.0 (λ same. apart (sym runs.1 ∙ same))
 
-  party_hears : (l : Sizes) (k next : CollectorMachine) (s : Space) (n o : Notices) → ((p : PassKnown R W E) → IsPassRecord kit l (announced_by k) (cycle_of k) s n p → Hears (announced_by k) (announced_by next) (cycle_of k) (cycle_of next) s n o p)
-      → (r : Party R W E) → IsPassParty r → IsParty kit l k s n r → IsParty kit l next s o r
+  party_hears : (l : Sizes) (k next : CollectorMachine M) (s : Space) (n o : Notices) → ((p : PassKnown R W E) → IsPassRecord kit l (announced_by k) (cycle_of k) s n p → Hears (announced_by k) (announced_by next) (cycle_of k) (cycle_of next) s n o p)
+      → (r : Party R W E M) → IsPassParty r → IsParty kit l k s n r → IsParty kit l next s o r
   party_hears l k next s n o hears (party.Pass p) pass is = pass_hears l (announced_by k) (announced_by next) (cycle_of k) (cycle_of next) s n o p (hears p is) is
   party_hears l k next s n o hears (party.Collector q) pass is = absurd pass
 
   -- and where so it is to each
-  pub others_hear : (l : Sizes) (k next : CollectorMachine) (s : Space) (n o : Notices) (others : List (Party R W E)) → All IsPassParty others
+  pub others_hear : (l : Sizes) (k next : CollectorMachine M) (s : Space) (n o : Notices) (others : List (Party R W E M)) → All IsPassParty others
       → ((p : PassKnown R W E) → IsPassRecord kit l (announced_by k) (cycle_of k) s n p → Hears (announced_by k) (announced_by next) (cycle_of k) (cycle_of next) s n o p)
       → All (IsParty kit l k s n) others → All (IsParty kit l next s o) others
   others_hear l k next s n o others passes hears each i d within = party_hears l k next s n o hears (get_or others i d) (passes i d within) (each i d within)

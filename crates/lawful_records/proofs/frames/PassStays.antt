@@ -12,20 +12,19 @@ use Rattle.barriers.specs.Protocols.{Protocol}
 use Rattle.barriers.specs.Kits.{Kit}
 use Rattle.lawful_records.specs.Collectors.{AreEarlier}
 use Rattle.lawful_records.specs.Cycling.{cycle_of}
-use Rattle.lawful_records.specs.Frames.{Grows, SeenBy, IsSameHead, Same, Beside}
+use Rattle.lawful_records.specs.Frames.{Grows, SeenBy, Leaves, Beside}
+use Rattle.lawful_records.specs.JobStands.{stand_of}
 use Rattle.lawful_records.specs.LawfulRecords.{IsPassRecord, IsCollectorRecord}
 use Rattle.lawful_records.specs.Records.{number_of, side_of, registers_by, room_by, made_by}
 use Rattle.lawful_records.specs.declared.collector.Awaited.{Awaited}
 use Rattle.lawful_records.specs.declared.collector.CollectorMachine.{CollectorMachine}
 use Rattle.lawful_records.specs.declared.records.PassKnown.{PassKnown}
 use Rattle.lawful_records.specs.declared.records.CollectorKnown.{CollectorKnown}
+use Rattle.lawful_records.proofs.frames.JobStays.{stand_stays}
 use Rattle.lawful_records.proofs.frames.Machines.{good_stays, room_stays, machine_stays}
 use Rattle.lawful_records.proofs.frames.SealStays.{sealed_stays}
 use Rattle.lawful_records.proofs.frames.Unborn.{unborn_stays}
 use Rattle.lawful_records.proofs.telling.Telling.{told_grows}
-
-pub head_same : (s : Space) (at : ℕ) → IsSameHead s s at
-head_same s at = record { state = refl; seal = refl; head = λ there. (refl, refl, refl) }
 
 pub seen_same : (P : Protocol) (c : Cycle) (s : Space) → SeenBy P c s s
 seen_same P c s = record { holds = λ birth at is. is; side = λ x is. is; call = λ x k side is. is; heads = λ at live. record { live = live; birth = refl; len = refl; colour = refl } }
@@ -46,14 +45,16 @@ earlier_later few more h less are = record {
 }
 
 module _ {R W E M : Type 0} (kit : Kit R W E M) where
-  pub collector_stays : (l : Sizes) (k : CollectorMachine) (m : ℕ) (s t : Space) (n o : Notices) (q : CollectorKnown) → Rows l t.state t.len t.ends t.region → Beside kit l (cycle_of k) m s t n o → IsCollectorRecord kit l k s q → IsCollectorRecord kit l k t q
-  collector_stays l k m s t n o q rows beside is = record {
+  pub collector_stays : (l : Sizes) (k : CollectorMachine M) (m : ℕ) (s t : Space) (n o : Notices) (q : CollectorKnown M) → Rows l t.state t.len t.ends t.region → Beside kit l (cycle_of k) m s t n o → Leaves kit.protocol l (cycle_of k) s t → IsCollectorRecord kit l k s q → IsCollectorRecord kit l k t q
+  collector_stays l k m s t n o q rows beside leaves is = record {
     machine = is.machine;
     cycles = is.cycles;
     few = is.few;
     collects = is.collects;
+    job = stand_stays kit l (cycle_of k) s t leaves beside.seen.heads (stand_of k) is.job;
     awaited = earlier_later (length s.history) (length t.history) q.awaited (grows_length m s.history t.history beside.history) is.awaited;
-    sealed = sealed_stays kit.protocol l s t rows beside.left beside.seen.heads q.sealed is.sealed;
+    sealed = sealed_stays kit.protocol l s t rows leaves.left beside.seen.heads q.sealed is.sealed;
+    only = is.only;
   }
 
   -- ---- a pass's
@@ -67,7 +68,6 @@ module _ {R W E M : Type 0} (kit : Kit R W E M) where
     phase = refl;
     mark = refl;
     regions = λ pass region is other own. record { word = refl; ends = refl };
-    left = λ at. Same (head_same s at);
     history = inl refl;
   }
 

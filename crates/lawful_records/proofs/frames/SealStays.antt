@@ -18,10 +18,10 @@ use Rattle.lawful_records.specs.Turns.{has_word, seal_in}
 use Rattle.lawful_records.specs.declared.records.Sealed.{Sealed}
 
 -- nothing that is on its way by a mark comes of a turn of a pass
-pub rests_on : (P : Protocol) (s t : Space) (at : ℕ) → Left P s t at → (IsMoving (s.state at) → ⊥) → IsMoving (t.state at) → ⊥
-rests_on P s t at (Same same) rests moving = rests (rw same.state at moving)
-rests_on P s t at (Untagged makes was is seal) rests moving = rw is at moving
-rests_on P s t at (Born was is seal) rests moving = rw is at moving
+pub rests_on : (P : Protocol) (l : Sizes) (s t : Space) (at : ℕ) → Left P l s t at → (IsMoving (s.state at) → ⊥) → IsMoving (t.state at) → ⊥
+rests_on P l s t at (Same same) rests moving = rests (rw same.state at moving)
+rests_on P l s t at (Untagged makes was is seal wide) rests moving = rw is at moving
+rests_on P l s t at (Born was is seal own) rests moving = rw is at moving
 
 -- ---- fields of other objects
 
@@ -48,7 +48,7 @@ none_sealed (one ∷ more) at none = rw (All-head (λ one. has_word one at ≡ f
 
 -- ---- a turn of a pass
 
-module _ (P : Protocol) (l : Sizes) (s t : Space) (rows : Rows l t.state t.len t.ends t.region) (left : (at : ℕ) → Left P s t at) (heads : (at : ℕ) → IsLive (s.state at) → IsSameAt s t at) where
+module _ (P : Protocol) (l : Sizes) (s t : Space) (rows : Rows l t.state t.len t.ends t.region) (left : (at : ℕ) → Left P l s t at) (heads : (at : ℕ) → IsLive (s.state at) → IsSameAt s t at) where
   there_stays : (one : Sealed) → IsThereSealed s one → IsThereSealed t one
   there_stays one is = let same = heads one.at is.live in record { live = same.live; len = same.len ∙ is.len }
 
@@ -64,10 +64,10 @@ module _ (P : Protocol) (l : Sizes) (s t : Space) (rows : Rows l t.state t.len t
       plain_there : Plain ≡ Absent → ⊥
       plain_there e = cc e
 
-  seal_by : (sealed : List Sealed) → AreSealed s sealed → (a f : ℕ) → Left P s t a → IsLive (t.state a) → f < t.len a → seal_in sealed (a + 1 + f) ≡ t.seal a
+  seal_by : (sealed : List Sealed) → AreSealed s sealed → (a f : ℕ) → Left P l s t a → IsLive (t.state a) → f < t.len a → seal_in sealed (a + 1 + f) ≡ t.seal a
   seal_by sealed are a f (Same same) live inside = same_seal sealed are a f (subst IsLive same.state live) same.seal inside
-  seal_by sealed are a f (Untagged makes was is seal) live inside = same_seal sealed are a f (rw was tt) seal inside
-  seal_by sealed are a f (Born was is seal) live inside = new_seal sealed are a f was is seal inside
+  seal_by sealed are a f (Untagged makes was is seal wide) live inside = same_seal sealed are a f (rw was tt) seal inside
+  seal_by sealed are a f (Born was is seal own) live inside = new_seal sealed are a f was is seal inside
 
   pub sealed_stays : (sealed : List Sealed) → AreSealed s sealed → AreSealed t sealed
   sealed_stays sealed are = record {

@@ -12,7 +12,7 @@ use Rattle.lawful_records.specs.declared.records.Party.{Party}
 use Rattle.lawful_records.specs.declared.records.Party.TheVariants as party
 
 module _ {R W E M : Type 0} (kit : Kit R W E M) (l : Sizes) where
-  abbrev passes : ℕ → ℕ → List (Party R W E)
+  abbrev passes : ℕ → ℕ → List (Party R W E M)
   passes = opening_passes l
 
   as_many : (from count : ℕ) → length (passes from count) ≡ count
@@ -43,10 +43,10 @@ module _ {R W E M : Type 0} (kit : Kit R W E M) (l : Sizes) where
   ]
 
   module _ (cycles : ℕ) where
-    abbrev last : Party R W E
-    last = party.Collector (record { machine = collector_of l cycles; awaited = none_awaited; sealed = [] })
+    abbrev last : Party R W E M
+    last = party.Collector (record { machine = collector_of kit l cycles; awaited = none_awaited; sealed = [] })
 
-    pub opening_counts : AreParties kit l (opening_parties l cycles)
+    pub opening_counts : AreParties kit l (opening_parties kit l cycles)
     opening_counts = record {
       many = omega (arith, length-append (passes 1 l.passes) (last ∷ []), as_many 1 l.passes);
       passes = λ pass is. omega (arith, sum_by-append (is_pass_of kit pass) (passes 1 l.passes) (last ∷ []), once pass 1 l.passes is.0 (omega (arith, is.1)), sum_by-cons (is_pass_of kit pass) last []);

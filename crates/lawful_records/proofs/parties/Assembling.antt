@@ -14,7 +14,7 @@ use Rattle.barriers.specs.Objects.{AreObjects, HasLens}
 use Rattle.barriers.specs.Cycles.{IsMoving}
 use Rattle.barriers.specs.Kits.{Kit}
 use Rattle.lawful_records.specs.Cycling.{announced_by, cycle_of}
-use Rattle.lawful_records.specs.Frames.{Beside}
+use Rattle.lawful_records.specs.Frames.{Leaves, Beside}
 use Rattle.lawful_records.specs.LawfulRecords.{IsPassRecord, IsCollectorRecord, IsParty, LawfulRecords}
 use Rattle.lawful_records.specs.Records.{number_of}
 use Rattle.lawful_records.specs.declared.collector.CollectorMachine.{CollectorMachine}
@@ -22,6 +22,7 @@ use Rattle.lawful_records.specs.declared.records.PassKnown.{PassKnown}
 use Rattle.lawful_records.specs.declared.records.CollectorKnown.{CollectorKnown}
 use Rattle.lawful_records.specs.declared.records.Party.{Party}
 use Rattle.lawful_records.specs.declared.records.Party.TheVariants as party
+use Rattle.lawful_records.proofs.frames.JobStays.{leaves_same}
 use Rattle.lawful_records.proofs.frames.PassStays.{beside_same, pass_stays, collector_stays}
 use Rattle.lawful_records.proofs.frames.SealStays.{rests_on}
 use Rattle.lawful_records.proofs.parties.Counts.{IsOther, parties_turn, parties_regroup, others_differ}
@@ -30,13 +31,13 @@ use Rattle.lawful_records.proofs.parties.Pasts.{SeesOn, sees_same, history_turn,
 module _ {R W E M : Type 0} (kit : Kit R W E M) where
   -- ---- the small fields of the law
 
-  pub lawful_wide : (l : Sizes) (ws : List ℕ) (rs : List (Party R W E)) → LawfulRecords kit l ws rs → length ws ≡ words_of l
+  pub lawful_wide : (l : Sizes) (ws : List ℕ) (rs : List (Party R W E M)) → LawfulRecords kit l ws rs → length ws ≡ words_of l
   lawful_wide l ws rs w = w.width
 
-  pub lawful_counted : (l : Sizes) (ws : List ℕ) (rs : List (Party R W E)) → LawfulRecords kit l ws rs → length rs ≡ l.passes + 1
+  pub lawful_counted : (l : Sizes) (ws : List ℕ) (rs : List (Party R W E M)) → LawfulRecords kit l ws rs → length rs ≡ l.passes + 1
   lawful_counted l ws rs w = w.parties.many
 
-  pub lawful_regroups : (l : Sizes) (ws : List ℕ) (rs qs : List (Party R W E)) → IsPermutation rs qs → LawfulRecords kit l ws rs → LawfulRecords kit l ws qs
+  pub lawful_regroups : (l : Sizes) (ws : List ℕ) (rs qs : List (Party R W E M)) → IsPermutation rs qs → LawfulRecords kit l ws rs → LawfulRecords kit l ws qs
   lawful_regroups l ws rs qs moves w = record {
     layout = w.layout;
     width = w.width;
@@ -57,31 +58,32 @@ module _ {R W E M : Type 0} (kit : Kit R W E M) where
 
   -- ---- a turn
 
-  party_stays : (l : Sizes) (k : CollectorMachine) (m : ℕ) (s t : Space) (n o : Notices) → Rows l t.state t.len t.ends t.region → Beside kit l (cycle_of k) m s t n o → (r : Party R W E) → IsOther m r → IsParty kit l k s n r → IsParty kit l k t o r
-  party_stays l k m s t n o rows beside (party.Pass p) other is = pass_stays kit l (announced_by k) (cycle_of k) m s t n o p other beside is
-  party_stays l k m s t n o rows beside (party.Collector q) other is = collector_stays kit l k m s t n o q rows beside is
+  party_stays : (l : Sizes) (k : CollectorMachine M) (m : ℕ) (s t : Space) (n o : Notices) → Rows l t.state t.len t.ends t.region → Beside kit l (cycle_of k) m s t n o → Leaves kit.protocol l (cycle_of k) s t → (r : Party R W E M) → IsOther m r → IsParty kit l k s n r → IsParty kit l k t o r
+  party_stays l k m s t n o rows beside leaves (party.Pass p) other is = pass_stays kit l (announced_by k) (cycle_of k) m s t n o p other beside is
+  party_stays l k m s t n o rows beside leaves (party.Collector q) other is = collector_stays kit l k m s t n o q rows beside leaves is
 
   -- where one pass moves, the others stay
-  pub others_stay : (l : Sizes) (k : CollectorMachine) (m : ℕ) (s t : Space) (n o : Notices) (others : List (Party R W E)) → Rows l t.state t.len t.ends t.region → Beside kit l (cycle_of k) m s t n o → All (IsOther m) others → All (IsParty kit l k s n) others → All (IsParty kit l k t o) others
-  others_stay l k m s t n o others rows beside other each i d within =
-      party_stays l k m s t n o rows beside (get_or others i d) (other i d within) (each i d within)
+  pub others_stay : (l : Sizes) (k : CollectorMachine M) (m : ℕ) (s t : Space) (n o : Notices) (others : List (Party R W E M)) → Rows l t.state t.len t.ends t.region → Beside kit l (cycle_of k) m s t n o → Leaves kit.protocol l (cycle_of k) s t → All (IsOther m) others → All (IsParty kit l k s n) others → All (IsParty kit l k t o) others
+  others_stay l k m s t n o others rows beside leaves other each i d within =
+      party_stays l k m s t n o rows beside leaves (get_or others i d) (other i d within) (each i d within)
 
   -- What a pass's turn makes of the space and the notices, where it was p and is q, and the words are these.
-  pub record PassMoved (l : Sizes) (k : CollectorMachine) (s : Space) (n : Notices) (p : PassKnown R W E) (words : List ℕ) (t : Space) (o : Notices) (q : PassKnown R W E) : Type 0 where
+  pub record PassMoved (l : Sizes) (k : CollectorMachine M) (s : Space) (n : Notices) (p : PassKnown R W E) (words : List ℕ) (t : Space) (o : Notices) (q : PassKnown R W E) : Type 0 where
     pub width : length words ≡ words_of l
     pub says : Says l (reading words) t o
     pub rows : Rows l t.state t.len t.ends t.region
     pub objects : AreObjects kit.protocol (cycle_of k) t
     pub lens : HasLens t
     pub beside : Beside kit l (cycle_of k) (number_of p) s t n o
+    pub leaves : Leaves kit.protocol l (cycle_of k) s t
     pub number : number_of q ≡ number_of p
     pub sees : SeesOn s.history t.history p.seen q.seen
     pub own : IsPassRecord kit l (announced_by k) (cycle_of k) t o q
 
-  pub assemble_pass : (l : Sizes) (ws vs : List ℕ) (p q : PassKnown R W E) (others : List (Party R W E)) (t : Space) (o : Notices) (w : LawfulRecords kit l ws (party.Pass p ∷ others)) → PassMoved l w.collector w.space w.notices p vs t o q → LawfulRecords kit l vs (party.Pass q ∷ others)
+  pub assemble_pass : (l : Sizes) (ws vs : List ℕ) (p q : PassKnown R W E) (others : List (Party R W E M)) (t : Space) (o : Notices) (w : LawfulRecords kit l ws (party.Pass p ∷ others)) → PassMoved l w.collector w.space w.notices p vs t o q → LawfulRecords kit l vs (party.Pass q ∷ others)
   assemble_pass l ws vs p q others t o w moved =
-      let P : Party R W E → Type 0 = IsParty kit l w.collector w.space w.notices in
-      let Q : Party R W E → Type 0 = IsParty kit l w.collector t o in
+      let P : Party R W E M → Type 0 = IsParty kit l w.collector w.space w.notices in
+      let Q : Party R W E M → Type 0 = IsParty kit l w.collector t o in
       let its : IsPassRecord kit l (announced_by w.collector) (cycle_of w.collector) w.space w.notices p = All-head P (party.Pass p) others w.each in
       let apart : All (IsOther (number_of p)) others = others_differ kit l p others its.number w.parties in
       record {
@@ -97,13 +99,13 @@ module _ {R W E M : Type 0} (kit : Kit R W E M) where
         rows = moved.rows;
         objects = moved.objects;
         lens = moved.lens;
-        resting = λ at. rests_on kit.protocol w.space t at (moved.beside.left at) (w.resting at);
+        resting = λ at. rests_on kit.protocol l w.space t at (moved.leaves.left at) (w.resting at);
         history = history_turn kit l (number_of p) w.space.history t.history (party.Pass p) (party.Pass q) others moved.sees moved.beside.history (inr its.number) w.history;
-        each = All-cons Q (party.Pass q) others moved.own (others_stay l w.collector (number_of p) w.space t w.notices o others moved.rows moved.beside apart (All-tail P (party.Pass p) others w.each));
+        each = All-cons Q (party.Pass q) others moved.own (others_stay l w.collector (number_of p) w.space t w.notices o others moved.rows moved.beside moved.leaves apart (All-tail P (party.Pass p) others w.each));
       }
 
   -- What the collector's turn makes of them, where its machine is then this one.
-  pub record CollectorMoved (l : Sizes) (s : Space) (words : List ℕ) (k : CollectorMachine) (t : Space) (o : Notices) (q : CollectorKnown) (others : List (Party R W E)) : Type 0 where
+  pub record CollectorMoved (l : Sizes) (s : Space) (words : List ℕ) (k : CollectorMachine M) (t : Space) (o : Notices) (q : CollectorKnown M) (others : List (Party R W E M)) : Type 0 where
     pub width : length words ≡ words_of l
     pub says : Says l (reading words) t o
     pub announced : o.phase ≡ (let a = announced_by k in a.word)
@@ -116,7 +118,7 @@ module _ {R W E M : Type 0} (kit : Kit R W E M) where
     pub own : IsCollectorRecord kit l k t q
     pub each : All (IsParty kit l k t o) others
 
-  pub assemble_collector : (l : Sizes) (ws vs : List ℕ) (p q : CollectorKnown) (others : List (Party R W E)) (k : CollectorMachine) (t : Space) (o : Notices) (w : LawfulRecords kit l ws (party.Collector p ∷ others)) → CollectorMoved l w.space vs k t o q others → LawfulRecords kit l vs (party.Collector q ∷ others)
+  pub assemble_collector : (l : Sizes) (ws vs : List ℕ) (p q : CollectorKnown M) (others : List (Party R W E M)) (k : CollectorMachine M) (t : Space) (o : Notices) (w : LawfulRecords kit l ws (party.Collector p ∷ others)) → CollectorMoved l w.space vs k t o q others → LawfulRecords kit l vs (party.Collector q ∷ others)
   assemble_collector l ws vs p q others k t o w moved = record {
     layout = w.layout;
     width = moved.width;
@@ -137,14 +139,14 @@ module _ {R W E M : Type 0} (kit : Kit R W E M) where
 
   -- ---- what a pass does without a step
 
-  pub record PassBegun (l : Sizes) (k : CollectorMachine) (s : Space) (n : Notices) (p q : PassKnown R W E) : Type 0 where
+  pub record PassBegun (l : Sizes) (k : CollectorMachine M) (s : Space) (n : Notices) (p q : PassKnown R W E) : Type 0 where
     pub number : number_of q ≡ number_of p
     pub seen : q.seen ≡ p.seen
     pub own : IsPassRecord kit l (announced_by k) (cycle_of k) s n q
 
-  pub assemble_begun : (l : Sizes) (ws : List ℕ) (p q : PassKnown R W E) (others : List (Party R W E)) (w : LawfulRecords kit l ws (party.Pass p ∷ others)) → PassBegun l w.collector w.space w.notices p q → LawfulRecords kit l ws (party.Pass q ∷ others)
+  pub assemble_begun : (l : Sizes) (ws : List ℕ) (p q : PassKnown R W E) (others : List (Party R W E M)) (w : LawfulRecords kit l ws (party.Pass p ∷ others)) → PassBegun l w.collector w.space w.notices p q → LawfulRecords kit l ws (party.Pass q ∷ others)
   assemble_begun l ws p q others w begun =
-      let P : Party R W E → Type 0 = IsParty kit l w.collector w.space w.notices in
+      let P : Party R W E M → Type 0 = IsParty kit l w.collector w.space w.notices in
       let its : IsPassRecord kit l (announced_by w.collector) (cycle_of w.collector) w.space w.notices p = All-head P (party.Pass p) others w.each in
       assemble_pass l ws ws p q others w.space w.notices w (record {
         width = w.width;
@@ -153,6 +155,7 @@ module _ {R W E M : Type 0} (kit : Kit R W E M) where
         objects = w.objects;
         lens = w.lens;
         beside = beside_same kit l (cycle_of w.collector) (number_of p) w.space w.notices;
+        leaves = leaves_same kit.protocol l (cycle_of w.collector) w.space;
         number = begun.number;
         sees = subst (SeesOn w.space.history w.space.history p.seen) (sym begun.seen) (sees_same w.space.history p.seen its.side.past);
         own = begun.own;

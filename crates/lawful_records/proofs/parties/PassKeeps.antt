@@ -17,7 +17,7 @@ use Rattle.lawful_records.specs.declared.records.Party.TheVariants as party
 use Rattle.lawful_records.proofs.parties.Pasts.{SeesOn, sees_turn}
 use Rattle.lawful_records.proofs.parties.Assembling.{assemble_pass}
 
-module _ {R W E M : Type 0} (kit : Kit R W E M) (by : Stepping R W E M) (l : Sizes) (ws : List ℕ) (p : PassKnown R W E) (others : List (Party R W E)) (w : LawfulRecords kit l ws (party.Pass p ∷ others)) where
+module _ {R W E M : Type 0} (kit : Kit R W E M) (by : Stepping R W E M) (l : Sizes) (ws : List ℕ) (p : PassKnown R W E) (others : List (Party R W E M)) (w : LawfulRecords kit l ws (party.Pass p ∷ others)) where
   own : IsPassRecord kit l (announced_by w.collector) (cycle_of w.collector) w.space w.notices p
   own = All-head (IsParty kit l w.collector w.space w.notices) (party.Pass p) others w.each
 
@@ -56,6 +56,7 @@ module _ {R W E M : Type 0} (kit : Kit R W E M) (by : Stepping R W E M) (l : Siz
           objects = turn.objects;
           lens = turn.lens;
           beside = turn.beside;
+          leaves = turn.leaves;
           number = turn.number;
           sees = sees;
           own = turn.own;
@@ -64,4 +65,4 @@ module _ {R W E M : Type 0} (kit : Kit R W E M) (by : Stepping R W E M) (l : Siz
     -- after a turn of the pass records are lawful
     pub pass_keeps : turned kit by others (party.Pass p) (slice_index ws (place_of (pass_asks kit by p.pass.machine))) ≡ party.Pass q
         → LawfulRecords kit l (applied (party_asks kit by (party.Pass p)) ws) (turned kit by others (party.Pass p) (slice_index ws (place_of (party_asks kit by (party.Pass p)))) ∷ others)
-    pass_keeps is = subst (λ (r : Party R W E). LawfulRecords kit l (applied (pass_asks kit by p.pass.machine) ws) (r ∷ others)) (sym is) kept
+    pass_keeps is = subst (λ (r : Party R W E M). LawfulRecords kit l (applied (pass_asks kit by p.pass.machine) ws) (r ∷ others)) (sym is) kept

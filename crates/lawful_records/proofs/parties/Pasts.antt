@@ -65,18 +65,18 @@ shows_on h g before after others sees shown = elim sees.shows [ inr now ↦ (0, 
 -- ---- all parties
 
 module _ {R W E M : Type 0} (kit : Kit R W E M) where
-  longest_seen : (rs : List (Party R W E)) → history_of rs ≡ longest (map seen_of rs)
+  longest_seen : (rs : List (Party R W E M)) → history_of rs ≡ longest (map seen_of rs)
   longest_seen [] = refl
   longest_seen (r ∷ rs) = ap (longer (seen_of r)) (longest_seen rs)
 
   -- the history is the longest that any has seen
-  pub history_is : (l : Sizes) (h : List Call) (rs : List (Party R W E)) → IsHistoryOf kit l h rs → history_of rs ≡ h
+  pub history_is : (l : Sizes) (h : List Call) (rs : List (Party R W E M)) → IsHistoryOf kit l h rs → history_of rs ≡ h
   history_is l h rs is = longest_seen rs ∙ longest_is (map seen_of rs) h (All-map (λ seen. Before seen h) seen_of rs is.past) is.shown
 
-  pub history_turn : (l : Sizes) (m : ℕ) (h g : List Call) (r q : Party R W E) (others : List (Party R W E)) → SeesOn h g (seen_of r) (seen_of q) → Grows m h g → (g ≡ h) ⊎ IsPass l m → IsHistoryOf kit l h (r ∷ others) → IsHistoryOf kit l g (q ∷ others)
+  pub history_turn : (l : Sizes) (m : ℕ) (h g : List Call) (r q : Party R W E M) (others : List (Party R W E M)) → SeesOn h g (seen_of r) (seen_of q) → Grows m h g → (g ≡ h) ⊎ IsPass l m → IsHistoryOf kit l h (r ∷ others) → IsHistoryOf kit l g (q ∷ others)
   history_turn l m h g r q others sees grows pass is =
-      let P : Party R W E → Type 0 = λ x. Before (seen_of x) h in
-      let Q : Party R W E → Type 0 = λ x. Before (seen_of x) g in
+      let P : Party R W E M → Type 0 = λ x. Before (seen_of x) h in
+      let Q : Party R W E M → Type 0 = λ x. Before (seen_of x) g in
       record {
         past = All-cons Q q others sees.past (All-weaker P Q (λ x past. past_grows m h g (seen_of x) grows past) others (All-tail P r others is.past));
         shown = shows_on h g (seen_of r) (seen_of q) (map seen_of others) sees is.shown;
@@ -84,7 +84,7 @@ module _ {R W E M : Type 0} (kit : Kit R W E M) where
         owners = owners_grow l m h g grows pass is.owners;
       }
 
-  pub history_regroup : (l : Sizes) (h : List Call) (rs qs : List (Party R W E)) → IsPermutation rs qs → IsHistoryOf kit l h rs → IsHistoryOf kit l h qs
+  pub history_regroup : (l : Sizes) (h : List Call) (rs qs : List (Party R W E M)) → IsPermutation rs qs → IsHistoryOf kit l h rs → IsHistoryOf kit l h qs
   history_regroup l h rs qs moves is = record {
     past = All-permutation (λ r. Before (seen_of r) h) rs qs moves is.past;
     shown = Contains-permutation (map seen_of rs) (map seen_of qs) h (IsPermutation-map seen_of rs qs moves) is.shown;

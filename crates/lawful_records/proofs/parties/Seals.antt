@@ -1,6 +1,6 @@
 -- What is sealed, by the records of all, is what the collector knows of it.
 use Rattle.std.specs.List.{All, sum_by}
-use Rattle.std.proofs.Common.{◌≡◌, ◌+◌, List, [], ◌∷◌, ◌++◌, refl, sym, ap, ◌∙◌, subst, arith}
+use Rattle.std.proofs.Common.{◌≡◌, List, [], ◌∷◌, ◌++◌, refl, sym, ap, ◌∙◌, subst, arith}
 use Rattle.std.proofs.lemmas.List.{append-nil}
 use Rattle.std.proofs.lemmas.List.Elements.{All-head, All-tail}
 use Rattle.std.proofs.lemmas.List.Sums.{sum_by-cons}
@@ -14,14 +14,14 @@ use Rattle.lawful_records.specs.declared.collector.CollectorMachine.{CollectorMa
 use Rattle.lawful_records.specs.declared.records.Party.{Party}
 use Rattle.lawful_records.specs.declared.records.Party.TheVariants as party
 
-module _ {R W E M : Type 0} (kit : Kit R W E M) (l : Sizes) (k : CollectorMachine) (s : Space) (n : Notices) where
+module _ {R W E M : Type 0} (kit : Kit R W E M) (l : Sizes) (k : CollectorMachine M) (s : Space) (n : Notices) where
   -- passes have sealed nothing
-  none_sealed : (rs : List (Party R W E)) → sum_by (is_collector kit) rs ≡ 0 → sealed_of rs ≡ []
+  none_sealed : (rs : List (Party R W E M)) → sum_by (is_collector kit) rs ≡ 0 → sealed_of rs ≡ []
   none_sealed [] none = refl
   none_sealed (party.Pass p ∷ rs) none = none_sealed rs (omega (arith, none, sum_by-cons (is_collector kit) (party.Pass p) rs))
   none_sealed (party.Collector q ∷ rs) none = absurd (omega (arith, none, sum_by-cons (is_collector kit) (party.Collector q) rs))
 
-  pub are_sealed : (rs : List (Party R W E)) → sum_by (is_collector kit) rs ≡ 1 → All (IsParty kit l k s n) rs → AreSealed s (sealed_of rs)
+  pub are_sealed : (rs : List (Party R W E M)) → sum_by (is_collector kit) rs ≡ 1 → All (IsParty kit l k s n) rs → AreSealed s (sealed_of rs)
   are_sealed [] one each = absurd (omega (arith, one))
   are_sealed (party.Pass p ∷ rs) one each = are_sealed rs (omega (arith, one, sum_by-cons (is_collector kit) (party.Pass p) rs)) (All-tail (IsParty kit l k s n) (party.Pass p) rs each)
   are_sealed (party.Collector q ∷ rs) one each =

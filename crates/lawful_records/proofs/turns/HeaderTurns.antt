@@ -1,5 +1,5 @@
 -- The turn of a pass that stores the header of a new object.
-use Rattle.std.proofs.Common.{◌≡◌, ◌≢◌, ℕ, ◌+◌, inl, inr, List, ◌∷◌, length, Some, None, refl, sym, ap, ◌∙◌, subst, arith}
+use Rattle.std.proofs.Common.{◌≡◌, ◌≢◌, ℕ, ◌+◌, ◌≤◌, inl, inr, List, ◌∷◌, length, Some, None, refl, sym, ap, ◌∙◌, subst, arith}
 use Rattle.call_steps.specs.declared.step.Step.TheVariants.{Ended}
 use Rattle.call_steps.specs.Steps.{IsInside}
 use Rattle.call_steps.specs.StepLaws.{reading, Put}
@@ -25,13 +25,17 @@ use Rattle.barriers.specs.NewObjects.{new_header, next_birth, placed}
 use Rattle.barriers.specs.NewObjects as makes
 use Rattle.barriers.specs.States.{Absent, Plain}
 use Rattle.barriers.specs.Spaces.{Space, Holds}
+use Rattle.space_reclaim.specs.declared.move_job.MoveJob.{MoveJob}
+use Rattle.barriers.specs.Rows.{region_of}
 use Rattle.barriers.specs.Says.{Notices, CanAppend, head_word}
 use Rattle.barriers.specs.Cycles.{Cycle}
 use Rattle.barriers.specs.Objects.{IsSide}
 use Rattle.barriers.specs.Kits.{Kit, Stepping, Laws}
 use Rattle.barriers.proofs.words.Made.{absent_before, rows_made, says_made}
+use Rattle.barriers.proofs.objects.Made.{made_leaves_move}
+use Rattle.barriers.proofs.words.Regions.{region_is}
 use Rattle.barriers.proofs.words.Sets.{set_cases, set_here, set_else}
-use Rattle.lawful_records.specs.Frames.{SeenBy, Beside, SameRegion, Left, Same, Born}
+use Rattle.lawful_records.specs.Frames.{SeenBy, Beside, SameRegion, Left, Same, Born, Leaves}
 use Rattle.lawful_records.specs.LawfulRecords.{IsPassRecord}
 use Rattle.lawful_records.specs.Making.{IsPlaced, IsRoom}
 use Rattle.lawful_records.specs.PassTurns.{PassStands, HasTurn, in_machine}
@@ -106,15 +110,37 @@ module _ {R W E M : Type 0} (kit : Kit R W E M) (by : Stepping R W E M) (laws : 
   seen : SeenBy kit.protocol c s t
   seen = new_seen kit.protocol laws.table c s stands.objects stands.lens k len birth pass absent made
 
-  left : (at : ℕ) → Left kit.protocol s t at
+  -- it begins in the pass's own region
+  own_region : l.pool ≤ region_of l (s.ends k)
+  own_region =
+      let low = stands.rows.least k in
+      let room = can.room in
+      let same : region_of l (s.ends k) ≡ k = region_is l (s.ends k) k low (omega (arith, room)) in
+      let own = is.room.own in
+      omega (arith, same, own.0)
+
+  left : (at : ℕ) → Left kit.protocol l s t at
   left at = elim (set_cases s.state (s.ends k) at Plain) [
-    | inl here ↦ Born (ap s.state here.0 ∙ absent) here.1 (ap t.seal here.0 ∙ set_here s.seal (s.ends k) None)
+    | inl here ↦ Born (ap s.state here.0 ∙ absent) here.1 (ap t.seal here.0 ∙ set_here s.seal (s.ends k) None) (subst (λ a. l.pool ≤ region_of l a) (sym here.0) own_region)
     | inr there ↦ Same (record {
       state = there.1;
       seal = set_else s.seal (s.ends k) at None there.0;
+      wide = set_else s.wide (s.ends k) at 0 there.0;
       head = λ is. (set_else s.birth (s.ends k) at birth there.0, set_else s.len (s.ends k) at len there.0, set_else s.colour (s.ends k) at Even there.0);
     })
   ]
+
+  leaves : Leaves kit.protocol l c s t
+  leaves = record {
+    left = left;
+    pool = λ region low. record { word = refl; ends = set_else s.ends k region (s.ends k + 1 + len) (λ same. (let own = is.room.own in omega (arith, same, low, own.0))) };
+    moves = λ m j job absent_on move. made_leaves_move kit.protocol laws.table c s stands.objects stands.lens k len birth Even pass absent made m j job move (λ same. absent_at j same absent_on);
+  }
+    where
+      absent_at : (j : MoveJob) → s.ends k ≡ j.to → (s.state j.to ≡ Absent → t.state j.to ≡ Absent) → ⊥
+      absent_at j same on =
+          let plain : t.state j.to ≡ Plain = ap t.state (sym same) ∙ set_here s.state (s.ends k) Plain in
+          cc (plain, on (ap s.state (sym same) ∙ absent))
 
   -- ---- the pass
 
@@ -205,7 +231,6 @@ module _ {R W E M : Type 0} (kit : Kit R W E M) (by : Stepping R W E M) (laws : 
     phase = refl;
     mark = refl;
     regions = others_regions;
-    left = left;
     history = inr (record { call = call; by = refl; fits = change_fits kit s.history pass p.pass.made len is.few rests.unborn; is = refl });
   }
 
@@ -227,6 +252,7 @@ module _ {R W E M : Type 0} (kit : Kit R W E M) (by : Stepping R W E M) (laws : 
         objects = new_objects kit.protocol laws.table c s stands.objects stands.lens k len birth pass absent made;
         lens = new_lens kit.protocol laws.table c s stands.objects stands.lens k len birth pass absent made;
         beside = beside;
+        leaves = leaves;
         history = ap (λ (x : Call). x ∷ s.history) (sym change_is);
         number = refl;
         looks = looks_not None s.history p.seen stands.own.side.past;

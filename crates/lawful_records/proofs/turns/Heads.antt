@@ -36,19 +36,19 @@ untagged : (kind : Kind) (c : Colour) (len birth : ℕ) → does_tag kind ≡ tr
 untagged kind c len birth tags = rw tags ((refl, refl), refl)
 
 module _ {R W E M : Type 0} (kit : Kit R W E M) where
-  headers_change : (kind : Kind) → (kit.protocol.Makes Keep → does_tag kind ≡ true) → (s t : Space) → ((a : ℕ) → IsLive (s.state a) → IsSameAt s t a) → (a : ℕ) → Left kit.protocol s t a
+  headers_change : (kind : Kind) → (kit.protocol.Makes Keep → does_tag kind ≡ true) → (s t : Space) → ((a : ℕ) → IsLive (s.state a) → IsSameAt s t a) → (a : ℕ) → (l : Sizes) → Left kit.protocol l s t a
       → (header_in t a ≡ header_in s a) ⊎ AllowedChange kind (header_in s a) (header_in t a)
-  headers_change kind tags s t heads a (Same same) = inl (elim (state_cases (s.state a)) [
+  headers_change kind tags s t heads a l (Same same) = inl (elim (state_cases (s.state a)) [
     | inl none ↦ rw (same.state, none) refl
     | inr there ↦ (let head = same.head there in rw (same.state, head.0, head.1, head.2) refl)
   ])
-  headers_change kind tags s t heads a (Untagged makes was is seal) =
+  headers_change kind tags s t heads a l (Untagged makes was is seal wide) =
       let same = heads a (rw was tt) in
       inr (rw (was, is, same.birth, same.len, same.colour) (untagged kind (s.colour a) (s.len a) (s.birth a) (tags makes)))
-  headers_change kind tags s t heads a (Born was is seal) = inr (rw (was, is) tt)
+  headers_change kind tags s t heads a l (Born was is seal own) = inr (rw (was, is) tt)
 
   -- a turn of a pass
-  module _ (by : Stepping R W E M) (l : Sizes) (words : List ℕ) (p : PassKnown R W E) (others : List (Party R W E)) (w : LawfulRecords kit l words (party.Pass p ∷ others)) where
+  module _ (by : Stepping R W E M) (l : Sizes) (words : List ℕ) (p : PassKnown R W E) (others : List (Party R W E M)) (w : LawfulRecords kit l words (party.Pass p ∷ others)) where
     pub pass_heads : (kind : Kind) → (kit.protocol.Makes Keep → does_tag kind ≡ true) → HasTurn kit by l (announced_by w.collector) (cycle_of w.collector) w.space w.notices p words → HeadersChange kind l words (applied (pass_asks kit by p.pass.machine) words)
     pass_heads kind tags has = record {
       old = w.space;
@@ -57,5 +57,5 @@ module _ {R W E M : Type 0} (kit : Kit R W E M) where
       new = has.space;
       new_notices = has.notices;
       says_new = has.turn.says;
-      changes = λ a. headers_change kind tags w.space has.space has.turn.beside.seen.heads a (has.turn.beside.left a);
+      changes = λ a. headers_change kind tags w.space has.space has.turn.beside.seen.heads a l (has.turn.leaves.left a);
     }

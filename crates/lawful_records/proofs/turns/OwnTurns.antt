@@ -82,7 +82,7 @@ module _ {R W E M : Type 0} (kit : Kit R W E M) (by : Stepping R W E M) (laws : 
   turn_of p stands on = turn_by p p.pass.machine stands on
 
 -- and keeps lawful records
-module _ {R W E M : Type 0} (kit : Kit R W E M) (by : Stepping R W E M) (laws : Laws kit by) (cycle : CycleLaws kit.protocol) (l : Sizes) (words : List ℕ) (p : PassKnown R W E) (others : List (Party R W E))
+module _ {R W E M : Type 0} (kit : Kit R W E M) (by : Stepping R W E M) (laws : Laws kit by) (cycle : CycleLaws kit.protocol) (l : Sizes) (words : List ℕ) (p : PassKnown R W E) (others : List (Party R W E M))
     (w : LawfulRecords kit l words (party.Pass p ∷ others)) (announcement : IsAnnounced l (announced_by w.collector) (cycle_of w.collector)) where
   stands : PassStands kit by l (announced_by w.collector) (cycle_of w.collector) w.space w.notices p words
   stands = stands_of kit by l words p others w announcement

@@ -17,13 +17,14 @@ use Rattle.barriers.specs.Kits.{Kit, Stepping}
 use Rattle.barriers.proofs.words.Frames.{says_same, put_same}
 use Rattle.barriers.proofs.words.Rows.{rows_region}
 use Rattle.barriers.proofs.words.Sets.{set_else}
-use Rattle.lawful_records.specs.Frames.{SameRegion, Same}
+use Rattle.lawful_records.specs.Frames.{SameRegion}
 use Rattle.lawful_records.specs.LawfulRecords.{IsPassRecord}
 use Rattle.lawful_records.specs.Records.{number_of}
 use Rattle.lawful_records.specs.Turns.{pass_asks, front_by, with_change, LooksOn}
 use Rattle.lawful_records.specs.PassTurns.{PassStands, HasTurn, seal_for, found_by, change_in, pass_after}
 use Rattle.lawful_records.specs.declared.records.PassKnown.{PassKnown}
-use Rattle.lawful_records.proofs.frames.PassStays.{head_same, seen_same}
+use Rattle.lawful_records.proofs.frames.PassStays.{seen_same}
+use Rattle.lawful_records.proofs.frames.JobStays.{leaves_same, leaves_region}
 use Rattle.lawful_records.proofs.frames.Regions.{own_apart}
 use Rattle.lawful_records.proofs.turns.Holding.{objects_region, seen_region}
 
@@ -87,9 +88,9 @@ module _ {R W E M : Type 0} (kit : Kit R W E M) (by : Stepping R W E M) (l : Siz
           phase = others.phase;
           mark = others.mark;
           regions = λ pass region is other own. record { word = refl; ends = refl };
-          left = λ at. Same (head_same s at);
           history = inl refl;
         };
+        leaves = leaves_same kit.protocol l c s;
         history = ap (λ change. with_change change s.history) (sym quiet);
         number = number;
         looks = looks;
@@ -120,9 +121,9 @@ module _ {R W E M : Type 0} (kit : Kit R W E M) (by : Stepping R W E M) (l : Siz
           phase = refl;
           mark = refl;
           regions = others_regions l s (number_of p) k x (λ other is its. own_apart l other (number_of p) k stands.layout is stands.own.number its owned);
-          left = λ at. Same (record { state = refl; seal = refl; head = λ is. (refl, refl, refl) });
           history = inl refl;
         };
+        leaves = leaves_region kit.protocol c s k x l (omega (arith, owned.0));
         history = ap (λ change. with_change change s.history) (sym quiet);
         number = number;
         looks = looks;

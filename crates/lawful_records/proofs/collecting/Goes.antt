@@ -1,0 +1,91 @@
+-- Where the collector stands before its step, and what the step comes to.
+use Rattle.std.specs.Prelude.{slice_index}
+use Rattle.std.specs.List.{All}
+use Rattle.std.proofs.Common.{◌≡◌, ℕ, ◌≤◌, ◌⊎◌, inl, List, ◌++◌, length, refl, arith}
+use Rattle.call_steps.specs.Steps.{place_of, applied}
+use Rattle.call_steps.specs.StepLaws.{reading}
+use Rattle.heap_words.specs.Layouts.{Sizes, IsLayout, words_of, first_word}
+use Rattle.object_headers.specs.Changes.{AllowedChange}
+use Rattle.barriers.specs.Spaces.{Space}
+use Rattle.barriers.specs.Says.{Notices, Says, header_in}
+use Rattle.barriers.specs.Rows.{Rows}
+use Rattle.barriers.specs.Objects.{AreObjects, HasLens}
+use Rattle.barriers.specs.Cycles.{Cycle, IsMoving}
+use Rattle.barriers.specs.Kits.{Kit, Stepping}
+use Rattle.lawful_records.specs.declared.job.TheConstants.{EMPTIED}
+use Rattle.lawful_records.specs.declared.collector.Awaited.{Awaited}
+use Rattle.lawful_records.specs.declared.collector.CollectorMachine.{CollectorMachine}
+use Rattle.lawful_records.specs.declared.records.PassKnown.{PassKnown}
+use Rattle.lawful_records.specs.declared.records.Sealed.{Sealed}
+use Rattle.lawful_records.specs.Collectors.{AreEarlier}
+use Rattle.lawful_records.specs.Cycling.{announced_by, cycle_of}
+use Rattle.lawful_records.specs.Frames.{SeenBy, SameRegion, Beside}
+use Rattle.lawful_records.specs.Handshakes.{IsCollector}
+use Rattle.lawful_records.specs.JobStands.{stand_of, StandsAt}
+use Rattle.lawful_records.specs.LawfulRecords.{AreSealed, IsPassRecord}
+use Rattle.lawful_records.specs.Turns.{collector_asks, collector_fed, sealed_now}
+use Rattle.lawful_records.proofs.frames.PassStays.{pass_stays}
+
+module _ {R W E M : Type 0} (kit : Kit R W E M) (by : Stepping R W E M) (l : Sizes) (words : List ℕ) where
+  -- the word that its step finds, and its machine then
+  abbrev pub found_in : CollectorMachine M → ℕ
+  found_in k = slice_index words (place_of (collector_asks kit by k))
+
+  abbrev pub next_of : CollectorMachine M → CollectorMachine M
+  next_of k = collector_fed kit by k (found_in k)
+
+  -- before its step, with these counts of its awaits, and so much sealed
+  pub record CollectorStands (s : Space) (n : Notices) (counts : Awaited) (sealed : List Sealed) (k : CollectorMachine M) : Type 0 where
+    pub layout : IsLayout l
+    pub width : length words ≡ words_of l
+    pub says : Says l (reading words) s n
+    pub announced : n.phase ≡ (let a = announced_by k in a.word)
+    pub unmarked : n.mark ≡ 0
+    pub rows : Rows l s.state s.len s.ends s.region
+    pub objects : AreObjects kit.protocol (cycle_of k) s
+    pub lens : HasLens s
+    pub resting : (a : ℕ) → IsMoving (s.state a) → ⊥
+    pub cycles : ℕ
+    pub few : cycles ≤ 64
+    pub collects : IsCollector l kit.kind cycles k
+    pub job : StandsAt kit l (cycle_of k) s (stand_of k)
+    pub awaited : AreEarlier (length s.history) counts
+    pub sealed_are : AreSealed s sealed
+    pub only : All (λ (one : Sealed). one.at ≡ first_word l EMPTIED) sealed
+
+  -- the step makes this of the space and the notices
+  pub record CollectorGoes (s : Space) (n : Notices) (sealed : List Sealed) (k : CollectorMachine M) : Type 0 where
+    pub space : Space
+    pub notices : Notices
+    pub says : Says l (reading (applied (collector_asks kit by k) words)) space notices
+    pub announced : notices.phase ≡ (let a = announced_by (next_of k) in a.word)
+    pub unmarked : notices.mark ≡ n.mark
+    pub rows : Rows l space.state space.len space.ends space.region
+    pub objects : AreObjects kit.protocol (cycle_of (next_of k)) space
+    pub lens : HasLens space
+    pub resting : (a : ℕ) → IsMoving (space.state a) → ⊥
+    pub history : space.history ≡ s.history
+    pub passes : (p : PassKnown R W E) → IsPassRecord kit l (announced_by k) (cycle_of k) s n p → IsPassRecord kit l (announced_by (next_of k)) (cycle_of (next_of k)) space notices p
+    pub job : StandsAt kit l (cycle_of (next_of k)) space (stand_of (next_of k))
+    pub sealed_are : AreSealed space (sealed ++ sealed_now kit by k s.history (found_in k))
+    pub only : All (λ (one : Sealed). one.at ≡ first_word l EMPTIED) (sealed ++ sealed_now kit by k s.history (found_in k))
+    pub heads : (a : ℕ) → (header_in space a ≡ header_in s a) ⊎ AllowedChange kit.kind (header_in s a) (header_in space a)
+
+  -- ---- passes, where nothing is announced
+
+  -- what changes is in regions of the pool
+  pub quiet_beside : (c : Cycle) (s t : Space) (n : Notices) → SeenBy kit.protocol c s t → ((region : ℕ) → l.pool ≤ region → SameRegion s t region) → t.history ≡ s.history → Beside kit l c 0 s t n n
+  quiet_beside c s t n seen regions history = record {
+    seen = seen;
+    acks = λ pass other. refl;
+    roots = λ pass reg other. refl;
+    phase = refl;
+    mark = refl;
+    regions = λ pass region is other own. regions region (omega (arith, own.0));
+    history = inl history;
+  }
+
+  pub quiet_passes : (k : CollectorMachine M) (s t : Space) (n : Notices) → SeenBy kit.protocol (cycle_of k) s t → ((region : ℕ) → l.pool ≤ region → SameRegion s t region) → t.history ≡ s.history
+      → (p : PassKnown R W E) → IsPassRecord kit l (announced_by k) (cycle_of k) s n p → IsPassRecord kit l (announced_by k) (cycle_of k) t n p
+  quiet_passes k s t n seen regions history p is =
+      pass_stays kit l (announced_by k) (cycle_of k) 0 s t n n p (λ e. (let there = is.number in omega (arith, e, there.0))) (quiet_beside (cycle_of k) s t n seen regions history) is

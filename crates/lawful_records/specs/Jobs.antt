@@ -1,0 +1,52 @@
+-- What a cycle moves, until cycles are planned; and which step of a mover seals its object.
+use Rattle.std.specs.Prelude.{ℕ, ◌==◌, ◌&&◌, Bool, true, false, nat_le, if◌then◌else◌, Option, Some, None}
+use Rattle.heap_words.specs.Layouts.{Sizes, first_word}
+use Rattle.call_steps.specs.declared.step.Step.{Step}
+use Rattle.call_steps.specs.declared.step.Step.TheVariants.{Exchange}
+use Rattle.object_headers.specs.declared.change.Kind.{Kind}
+use Rattle.object_headers.specs.declared.header.Colour.TheVariants.{Even}
+use Rattle.object_headers.specs.declared.header.Header.{Header}
+use Rattle.object_headers.specs.declared.header.State.{State}
+use Rattle.object_headers.specs.declared.header.State.TheVariants as states
+use Rattle.object_headers.specs.Changes.{is_chicken}
+use Rattle.object_headers.specs.Headers.{word_of_header, header_at}
+use Rattle.space_reclaim.specs.declared.move_job.MoveJob.{MoveJob}
+use Rattle.lawful_records.specs.declared.job.TheConstants.{EMPTIED, FILLED}
+
+-- ---- the job
+
+-- the object that is there from the start: birth number 1, eight fields
+abbrev pub common : Header
+common = record { state = states.Plain; colour = Even; len = 8; birth = 1; target = 0 }
+
+-- it goes from the first word of the one region to the first word of the other
+abbrev pub first_job : Sizes → MoveJob
+first_job l = record { birth = 1; from = first_word l EMPTIED; to = first_word l FILLED; wide = 0; len = 8; header = word_of_header common }
+
+-- The job of a cycle, until there is a plan: in the first cycle that object, where the pool has a second region. Only Chicken moves it yet.
+abbrev pub job_in : Kind → Sizes → ℕ → Option MoveJob
+job_in kind l cycle = if is_chicken kind && nat_le 2 l.pool && cycle == 1 then Some (first_job l) else None
+
+-- ---- headers
+
+abbrev pub tagged_by : State → Header → ℕ → ℕ
+tagged_by states.Plain header word = word_of_header (record header { state = states.Tagged })
+tagged_by state header word = word
+
+-- the word of the same header when it is Tagged
+abbrev pub tagged_word : ℕ → ℕ
+tagged_word word = let header = header_at word in tagged_by header.state header word
+
+abbrev pub is_tagged_state : State → Bool
+is_tagged_state states.Tagged = true
+is_tagged_state state = false
+
+abbrev pub is_tagged : ℕ → Bool
+is_tagged word = is_tagged_state (let header = header_at word in header.state)
+
+-- ---- seals
+
+-- a mover's step seals the object at this address: an exchange of its Tagged header wins
+abbrev pub does_seal : ℕ → Step → ℕ → Bool
+does_seal at (Exchange place want put) found = place == at && (found == want && is_tagged found)
+does_seal at step found = false
