@@ -2,7 +2,6 @@
 use Rattle.std.specs.List.{All}
 use Rattle.std.proofs.Common.{◌≡◌, ◌≢◌, ◌↔◌, ◌⊎◌, ℕ, ◌+◌, ◌-◌, ◌<◌, ◌≤◌, List, [], ◌∷◌, ◌++◌, length, map, get_or, length-append, None, inl, inr, refl, sym, ap, ◌∙◌, subst, arith}
 use Rattle.std.proofs.lemmas.List.{get_or-map, get_or_append_left, get_or-append-add, length-map}
-use Rattle.call_steps.specs.Steps.{IsInside}
 use Rattle.call_steps.specs.StepLaws.{reading}
 use Rattle.heap_words.specs.Layouts.{IsPass, ack_at}
 use Rattle.handshakes.specs.Handshakes.{Answers}
@@ -15,19 +14,17 @@ use Rattle.barriers.specs.declared.pass.PassMachine.TheVariants as machine
 use Rattle.barriers.specs.declared.pass.PassRecord.{PassRecord}
 use Rattle.barriers.specs.Kits.{Kit}
 use Rattle.barriers.specs.Records.{ended_of}
-use Rattle.lawful_records.specs.Handshakes.{IsCollector}
-use Rattle.lawful_records.specs.Collectors.{announced_of, before_of, passed_of, asks_of}
+use Rattle.lawful_records.specs.Collectors.{announced_of, before_of, passed_of}
 use Rattle.lawful_records.specs.Cycling.{announced_by, cycle_of}
 use Rattle.lawful_records.specs.LawfulRecords.{IsAcked, IsPassRecord, IsCollectorRecord, IsParty}
 use Rattle.lawful_records.specs.Records.{view_by}
 use Rattle.lawful_records.specs.declared.records.Party.{Party}
 use Rattle.lawful_records.specs.declared.records.Party.TheVariants as party
-use Rattle.lawful_records.proofs.collecting.Playing.{steps_inside}
-use Rattle.gc_cycle.specs.Lawful.{Lawful, known_in, records_in}
+use Rattle.gc_cycle.specs.Lawful.{Lawful, known_in, collector_in, records_in}
 use Rattle.gc_cycle.specs.Worlds.{State, pass_at, nobody}
 
 -- what holds of the acknowledgement of a thread
-pub record IsAcknowledged {R W E : Type 0} (w : State R W E) (thread word : ℕ) : Type 0 where
+pub record IsAcknowledged {R W E M : Type 0} (w : State R W E M) (thread word : ℕ) : Type 0 where
   pub word_is : word ≡ reading w.words (ack_at thread)
   pub retired : (word ≡ retired_word) ↔ ((let p = pass_at w thread in p.machine) ≡ machine.Retired)
   pub running : word ≢ retired_word → (word ≡ announced_of w.collector) ⊎ (word ≡ before_of w.collector)
@@ -49,18 +46,18 @@ module _ {R W E M : Type 0} (kit : Kit R W E M) where
   retired_only (machine.Retire retire.Ended) word going is = absurd cc
   retired_only m word going is = ((λ e. absurd (is e)), (λ e. absurd cc))
 
-  module _ (w : State R W E) (lw : Lawful kit w) where
-    abbrev Stood : Party R W E → Type 0
+  module _ (w : State R W E M) (lw : Lawful kit w) where
+    abbrev Stood : Party R W E M → Type 0
     Stood = let records = lw.records in IsParty kit w.layout records.collector records.space records.notices
 
-    abbrev collects : Party R W E
-    collects = party.Collector (record { machine = w.collector; awaited = w.awaited; sealed = [] })
+    abbrev collects : Party R W E M
+    collects = party.Collector (collector_in w)
 
-    abbrev read_off : PassRecord R W E → Party R W E
+    abbrev read_off : PassRecord R W E → Party R W E M
     read_off p = party.Pass (known_in w p)
 
     -- what its record says of the collector
-    pub collector_record : (let records = lw.records in IsCollectorRecord kit w.layout records.collector records.space (record { machine = w.collector; awaited = w.awaited; sealed = [] }))
+    pub collector_record : (let records = lw.records in IsCollectorRecord kit w.layout records.collector records.space (collector_in w))
     collector_record = let records = lw.records in last_of Stood (map read_off w.passes) collects records.each
 
     -- what a thread's record says of it
@@ -72,12 +69,6 @@ module _ {R W E M : Type 0} (kit : Kit R W E M) where
         let here : get_or (records_in w) (thread - 1) collects ≡ read_off (pass_at w thread) =
         get_or_append_left (map read_off w.passes) (collects ∷ []) collects (thread - 1) few ∙ get_or-map read_off w.passes (thread - 1) nobody collects within in
         subst Stood here (records.each (thread - 1) collects (omega (arith, within, length-append (map read_off w.passes) (collects ∷ []), length-map w.passes read_off)))
-
-    pub can_collect : IsInside (length w.words) (asks_of w.collector)
-    can_collect =
-        let records = lw.records in
-        let is = collector_record in
-        subst (λ len. IsInside len (asks_of w.collector)) (sym records.width) (steps_inside w.layout is.cycles w.collector (subst (λ k. IsCollector w.layout is.cycles k) (sym is.machine) is.collects))
 
     module _ (thread : ℕ) (is : IsPass w.layout thread) where
       abbrev p : PassRecord R W E

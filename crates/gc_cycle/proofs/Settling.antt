@@ -145,7 +145,7 @@ ready_after l p put ended ready fits = front_ready l (with_put p put) ended (put
 -- ---- what the code makes of an end
 
 -- at a command it is what the end of the machine is followed by
-pub concluded_some : {R W E M : Type 0} (kit : Kit R W E M) (w : State R W E) (party : ℕ) (end : MachineEnd) (command : Command) (p : PassRecord R W E) (s : Sequel)
+pub concluded_some : {R W E M : Type 0} (kit : Kit R W E M) (w : State R W E M) (party : ℕ) (end : MachineEnd) (command : Command) (p : PassRecord R W E) (s : Sequel)
     → p ≡ with_end (pass_at w party) end → command_at w party ≡ Some command → s ≡ sequel_of (changes_now w) command (face_of p) end → followed_at kit w party p s ≡ concluded_at kit w party end
 concluded_some kit w party end command p s p_is at s_is =
     ap (followed_at kit w party p) s_is

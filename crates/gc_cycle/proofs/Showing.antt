@@ -32,7 +32,7 @@ length_at (x ∷ xs) zero = omega (arith, sum_by-cons length x xs)
 length_at (x ∷ xs) (suc i) = omega (arith, sum_by-cons length x xs, length_at xs i)
 
 module _ {R W E M : Type 0} (kit : Kit R W E M) where
-  shows_thread : (w : State R W E) → Lawful kit w → (party : ℕ) → IsPass w.layout party → ShowsThread w party
+  shows_thread : (w : State R W E M) → Lawful kit w → (party : ℕ) → IsPass w.layout party → ShowsThread w party
   shows_thread w lw party is = let thread = lw.threads party is in let tells = thread.tells in record {
     fronts = tells.fronts;
     seat = tells.seat;
@@ -41,7 +41,7 @@ module _ {R W E M : Type 0} (kit : Kit R W E M) where
   }
 
   -- no thread has more answers than a script has commands
-  few_answers : (w : State R W E) → Lawful kit w → All (λ (answers : List Answer). length answers ≤ 65536) w.told.answers
+  few_answers : (w : State R W E M) → Lawful kit w → All (λ (answers : List Answer). length answers ≤ 65536) w.told.answers
   few_answers w lw k d within =
       let is : IsPass w.layout (k + 1) = (omega arith, omega (arith, within, lw.room.threads, lw.script.threads)) in
       let thread = lw.threads (k + 1) is in
@@ -50,7 +50,7 @@ module _ {R W E M : Type 0} (kit : Kit R W E M) where
       omega (arith, ap length at, thread.fit, length_at w.commands (k + 1 - 1), lw.script.few)
 
   -- the record that stands at its place is the thread's
-  pub acknowledged_by : (w : State R W E) → Lawful kit w → (thread : ℕ) → IsPass w.layout thread → (passes : List (PassRecord R W E)) → passes ≡ w.passes → (x : PassRecord R W E) → x ≡ get_or passes (thread - 1) x
+  pub acknowledged_by : (w : State R W E M) → Lawful kit w → (thread : ℕ) → IsPass w.layout thread → (passes : List (PassRecord R W E)) → passes ≡ w.passes → (x : PassRecord R W E) → x ≡ get_or passes (thread - 1) x
       → IsAcknowledged w thread (let view = x.view in view.acked)
   acknowledged_by w lw thread is passes same x here =
       let at : x ≡ pass_at w thread = stands_at w thread passes same x here is.0 (omega (arith, lw.passes, is.1)) in
@@ -58,7 +58,7 @@ module _ {R W E M : Type 0} (kit : Kit R W E M) where
 
 module _ {R W E M : Type 0} (kit : Kit R W E M) (by : Stepping R W E M) (laws : Laws kit by) where
   -- its calls, arranged
-  pub shows_of : (w : State R W E) → Lawful kit w → (entries : List Entry) → entries ≡ shown w.told.log → Shows kit by w entries
+  pub shows_of : (w : State R W E M) → Lawful kit w → (entries : List Entry) → entries ≡ shown w.told.log → Shows kit by w entries
   shows_of w lw entries is =
       let changed = ap changes is ∙ changes-shown w.told.log lw.log in record {
         entries_are = is;

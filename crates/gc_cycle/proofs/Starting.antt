@@ -85,5 +85,5 @@ script_of s fits rooms =
     }
 
 pub lawful_at_start : {R W E M : Type 0} (kit : Kit R W E M) (by : Stepping R W E M) → Laws kit by → (s : Reading) → Fits s → ((t : ℕ) → IsPass s.layout t → rooms_of (commands_of t s.lines) ≤ 64)
-    → (w : State R W E) → w ≡ opening_state kit s → Lawful kit w
+    → (w : State R W E M) → w ≡ opening_state kit s → Lawful kit w
 lawful_at_start kit by laws s fits rooms w is = subst (Lawful kit) (sym is) (opening_lawful kit by laws s (script_of s fits rooms) fits.cycles)

@@ -18,23 +18,23 @@ use Rattle.gc_cycle.proofs.opening.Opened.{opening_is_lawful}
 
 module _ {R W E M : Type 0} (kit : Kit R W E M) (by : Stepping R W E M) (laws : Laws kit by) where
   -- a thread whose machine asks for a step can take it
-  pub can_take : (w : State R W E) → Lawful kit w → (party : ℕ) → IsPass w.layout party → asks_at kit by w party ≢ Ended → CanTake kit by w party
+  pub can_take : (w : State R W E M) → Lawful kit w → (party : ℕ) → IsPass w.layout party → asks_at kit by w party ≢ Ended → CanTake kit by w party
   can_take w lw party is on = taking.can_take kit by laws w lw party is on
 
   -- every turn of every party
-  pub turn_keeps : (w : State R W E) → Lawful kit w → (party : ℕ) → IsParty w.layout party → Lawful kit (turn_of kit by w party)
+  pub turn_keeps : (w : State R W E M) → Lawful kit w → (party : ℕ) → IsParty w.layout party → Lawful kit (turn_of kit by w party)
   turn_keeps w lw party is = turns.turn_lawful kit by laws w lw party is (turn_records kit by laws w lw party is)
 
-  pub turn_moves : (w : State R W E) → Lawful kit w → (party : ℕ) → IsParty w.layout party → Moves kit by w party (turn_of kit by w party)
+  pub turn_moves : (w : State R W E M) → Lawful kit w → (party : ℕ) → IsParty w.layout party → Moves kit by w party (turn_of kit by w party)
   turn_moves w lw party is = turns.turn_moves kit by laws w lw party is
 
-  pub turn_headers : (w : State R W E) → Lawful kit w → (party : ℕ) → IsParty w.layout party → (kind : Kind) → kind ≡ kit.kind → HeadersChange kind w.layout w.words (let t = turn_of kit by w party in t.words)
+  pub turn_headers : (w : State R W E M) → Lawful kit w → (party : ℕ) → IsParty w.layout party → (kind : Kind) → kind ≡ kit.kind → HeadersChange kind w.layout w.words (let t = turn_of kit by w party in t.words)
   turn_headers w lw party is kind same = subst (λ (k : Kind). HeadersChange k w.layout w.words (let t = turn_of kit by w party in t.words)) (sym same) (turn_heads kit by laws w lw party is)
 
   -- a thread that takes no step has retired
-  pub retired_at_end : (w : State R W E) → Lawful kit w → (party : ℕ) → IsPass w.layout party → asks_at kit by w party ≡ Ended → (let p = pass_at w party in p.machine) ≡ Retired
+  pub retired_at_end : (w : State R W E M) → Lawful kit w → (party : ℕ) → IsPass w.layout party → asks_at kit by w party ≡ Ended → (let p = pass_at w party in p.machine) ≡ Retired
   retired_at_end w lw party is over = turns.retired_at_end kit by laws w lw party is over
 
   -- the start
-  pub opening_lawful : (s : Reading) → IsScript s.layout (let w : State R W E = opening_state kit s in w.commands) → s.cycles ≤ 64 → Lawful kit (opening_state kit s)
+  pub opening_lawful : (s : Reading) → IsScript s.layout (let w : State R W E M = opening_state kit s in w.commands) → s.cycles ≤ 64 → Lawful kit (opening_state kit s)
   opening_lawful s script few = opening_is_lawful kit by laws s script few

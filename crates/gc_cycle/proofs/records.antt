@@ -7,6 +7,7 @@ pub mod Growing
 pub mod Heads
 pub mod Leaving
 pub mod Places
+pub mod Seals
 pub mod Shares
 pub mod Stepped
 pub mod Stepping

@@ -1,6 +1,7 @@
 -- What holds of a world between any two steps, whoever takes them: its words and records are lawful, and each thread is where its script is.
 use Rattle.std.specs.Prelude.{◌≡◌, ℕ, ◌+◌, ◌-◌, ◌≤◌, ◌⊎◌, List, [], ◌∷◌, ◌++◌, length, map, reverse, drop, sum_by, ◌==◌, Option, Some, None, slice_get}
 use Rattle.std.specs.List.{All, filter}
+use Rattle.std.specs.Option.{ForSome}
 use Rattle.heap_words.specs.Layouts.{Sizes, IsLayout, IsPass}
 use Rattle.heap_history.specs.Histories.{pass_of}
 use Rattle.heap_history.specs.Logs.{changes_of, of_pass, IsLog, AreOfPasses}
@@ -30,26 +31,34 @@ use Rattle.barriers.specs.Kits.{Kit, ending_of}
 use Rattle.space_reclaim.specs.Claims.{round_of}
 use Rattle.space_reclaim.specs.OwnRegions.{first_own}
 use Rattle.heap_words.specs.Layouts.{first_word}
+use Rattle.lawful_records.specs.declared.records.CollectorKnown.{CollectorKnown}
 use Rattle.lawful_records.specs.declared.records.PassKnown.{PassKnown}
 use Rattle.lawful_records.specs.declared.records.Party.{Party}
 use Rattle.lawful_records.specs.declared.records.Party.TheVariants as party
+use Rattle.lawful_records.specs.declared.records.Sealed.{Sealed}
 use Rattle.lawful_records.specs.LawfulRecords.{LawfulRecords}
+use Rattle.gc_cycle.specs.declared.world.SealedAt.{SealedAt}
 use Rattle.gc_cycle.specs.Sequels.{read_call, write_call, exchange_call}
-use Rattle.gc_cycle.specs.Worlds.{State, pass_at, face_of}
+use Rattle.gc_cycle.specs.Worlds.{State, pass_at, changes_now, face_of}
 
 -- ---- the records, read off a world
 
 -- the changes so far, the newest first
-abbrev pub history_in : {R W E : Type 0} → State R W E → List Call
+abbrev pub history_in : {R W E M : Type 0} → State R W E M → List Call
 history_in w = reverse (changes_of w.told.log)
 
 -- those of them that one who has seen so many has seen
 abbrev pub seen_of : List Call → ℕ → List Call
 seen_of h count = drop (length h - count) h
 
-module _ {R W E : Type 0} where
+-- the object that is sealed, with the changes at its seal
+abbrev pub seals_in : Option SealedAt → List Call → List Sealed
+seals_in None h = []
+seals_in (Some s) h = record { at = s.at; len = s.len; changes = seen_of h s.changes } ∷ []
+
+module _ {R W E M : Type 0} where
   -- what is known of a pass: what it has seen, its own changes, and the calls that it has ended, in what was told
-  abbrev pub known_in : State R W E → PassRecord R W E → PassKnown R W E
+  abbrev pub known_in : State R W E M → PassRecord R W E → PassKnown R W E
   known_in w p = record {
     pass = p;
     seen = seen_of (history_in w) p.seen;
@@ -57,8 +66,12 @@ module _ {R W E : Type 0} where
     ended = of_pass (let view = p.view in view.pass) w.told.log;
   }
 
-  abbrev pub records_in : State R W E → List (Party R W E)
-  records_in w = map (λ p. party.Pass (known_in w p)) w.passes ++ party.Collector (record { machine = w.collector; awaited = w.awaited; sealed = [] }) ∷ []
+  -- and of the collector
+  abbrev pub collector_in : State R W E M → CollectorKnown M
+  collector_in w = record { machine = w.collector; awaited = w.awaited; sealed = seals_in w.sealed (history_in w) }
+
+  abbrev pub records_in : State R W E M → List (Party R W E M)
+  records_in w = map (λ p. party.Pass (known_in w p)) w.passes ++ party.Collector (collector_in w) ∷ []
 
 -- ---- a script whose objects fit one region of each thread
 
@@ -79,7 +92,7 @@ pub record IsScript (l : Sizes) (cs : List (List Command)) : Type 0 where
   pub few : total cs ≤ 65536
 
 -- there is room for an answer to each command, for a call for each, and a count of refused tries for each
-pub record HasRoom {R W E : Type 0} (w : State R W E) : Type 0 where
+pub record HasRoom {R W E M : Type 0} (w : State R W E M) : Type 0 where
   pub threads : length w.told.answers ≡ length w.commands
   pub answers : w.told.rooms ≡ map length w.commands
   pub log : w.told.log_room ≡ total w.commands
@@ -117,7 +130,7 @@ abbrev pub standing_of : {R W E : Type 0} → PassRecord R W E → Standing
 standing_of p = record { made = p.made; seen = p.seen; registers = map value_of p.registers }
 
 -- a thread of the script
-abbrev pub thread_of : {R W E : Type 0} → State R W E → ℕ → Thread
+abbrev pub thread_of : {R W E M : Type 0} → State R W E M → ℕ → Thread
 thread_of w party = record { number = party; quota = w.layout.quota; commands = commands_at w.commands party }
 
 module _ {R W E M : Type 0} (kit : Kit R W E M) where
@@ -151,12 +164,14 @@ module _ {R W E M : Type 0} (kit : Kit R W E M) where
     pub room : IsFirstRoom l t.number p.room
     pub left : (let room = p.room in room.used) + rooms_of (drop (length answers) t.commands) ≤ 64
 
-  abbrev pub IsThread : State R W E → ℕ → Type 0
+  abbrev pub IsThread : State R W E M → ℕ → Type 0
   IsThread w party = IsThreadOf w.layout (thread_of w party) (pass_at w party) (answers_at w.told.answers party) w.told.log
 
-  -- Words and records are lawful; the script is one that is played; what was told is a log of the passes' calls; and each thread is where it is.
-  pub record Lawful (w : State R W E) : Type 0 where
+  -- Words and records are lawful, and what is sealed was so after changes that there are; the script is one that is played; what was told is a
+  -- log of the passes' calls; and each thread is where it is.
+  pub record Lawful (w : State R W E M) : Type 0 where
     pub records : LawfulRecords kit w.layout w.words (records_in w)
+    pub sealed : ForSome w.sealed (λ s. s.changes ≤ changes_now w)
     pub script : IsScript w.layout w.commands
     pub passes : length w.passes ≡ w.layout.passes
     pub room : HasRoom w

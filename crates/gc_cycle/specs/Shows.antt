@@ -17,13 +17,13 @@ use Rattle.gc_cycle.specs.Worlds.{State, answered}
 use Rattle.gc_cycle.specs.Runs.{is_over}
 
 -- the world plays this script
-pub record Plays {R W E : Type 0} (w : State R W E) (script : Reading) : Type 0 where
+pub record Plays {R W E M : Type 0} (w : State R W E M) (script : Reading) : Type 0 where
   pub layout : w.layout ≡ script.layout
   pub commands : w.commands ≡ commands_by script.layout.passes script.lines
 
 -- The commands that a thread has ended are a run in the history, and its calls stand among the arranged ones as those of
 -- this run, in its order and with its fronts.
-pub record ShowsThread {R W E : Type 0} (w : State R W E) (party : ℕ) : Type 0 where
+pub record ShowsThread {R W E M : Type 0} (w : State R W E M) (party : ℕ) : Type 0 where
   pub fronts : List ℕ
   pub seat : Seat
   pub run : IsRun w.layout.quota party (changes_of w.told.log) first_seat
@@ -36,7 +36,7 @@ module _ {R W E M : Type 0} (kit : Kit R W E M) (by : Stepping R W E M) where
   -- and each stands where its front says. They are a legal history of the threads, whose calls they are. Where every
   -- party has ended, the answers are allowed for the changes among them. No thread has more answers than a script has
   -- commands.
-  pub record Shows (w : State R W E) (entries : List Entry) : Type 0 where
+  pub record Shows (w : State R W E M) (entries : List Entry) : Type 0 where
     pub entries_are : entries ≡ shown w.told.log
     pub accepted : IsAccepted opening entries
     pub changes_are : changes entries ≡ changes_of w.told.log

@@ -7,11 +7,12 @@ use Rattle.heap_words.specs.declared.field_word.FieldWord.{FieldWord}
 use Rattle.heap_words.specs.declared.field_word.FieldWord.TheVariants.{Num, Link}
 use Rattle.heap_words.specs.FieldWords.{IsFieldWord}
 use Rattle.object_headers.specs.Headers.{word_of_header}
+use Rattle.space_reclaim.specs.declared.move_job.MoveJob.{MoveJob}
 use Rattle.space_reclaim.specs.declared.region_word.RegionWord.TheVariants.{Filled}
 use Rattle.space_reclaim.specs.RegionWords.{word_of_region}
 use Rattle.call_steps.specs.declared.step.Step.{Step}
 use Rattle.call_steps.specs.declared.step.Step.TheVariants.{Ended}
-use Rattle.call_steps.specs.Steps.{applied, found_by, IsInside}
+use Rattle.call_steps.specs.Steps.{applied, found_by, place_of, IsInside}
 use Rattle.heap_history.specs.declared.call.Ended as calls
 use Rattle.heap_history.specs.Logs.{changes_of}
 use Rattle.heap_script.specs.declared.script.Command.{Command}
@@ -25,6 +26,7 @@ use Rattle.barriers.specs.declared.front.Front.{Front}
 use Rattle.barriers.specs.declared.front.Front.TheVariants.{Stays, Now, SealedOrNow}
 use Rattle.barriers.specs.declared.machine_end.MachineEnd.{MachineEnd}
 use Rattle.barriers.specs.declared.machine_end.MachineEnd.TheVariants as ends
+use Rattle.barriers.specs.declared.ends.MoveEnd.{MoveEnd}
 use Rattle.barriers.specs.declared.ends.NewEnd.TheVariants as new_end
 use Rattle.barriers.specs.declared.ends.ReadEnd.TheVariants as read_end
 use Rattle.barriers.specs.declared.ends.ExchangeEnd.TheVariants as exchange_end
@@ -38,25 +40,28 @@ use Rattle.barriers.specs.Kits.{Kit, Stepping}
 use Rattle.barriers.specs.Records.{IsReady, HasBirths, Fits, with_end, ended_of, started}
 use Rattle.lawful_records.specs.declared.collector.Awaited.{Awaited}
 use Rattle.lawful_records.specs.declared.collector.CollectorMachine.{CollectorMachine}
-use Rattle.lawful_records.specs.Collectors.{collector_of, none_awaited, awaits_behind}
+use Rattle.lawful_records.specs.Collectors.{collector_of, none_awaited, awaits_behind, seals_of, move_ended}
 use Rattle.lawful_records.specs.Collectors as collectors
 use Rattle.gc_cycle.specs.declared.sequel.Face.{Face}
 use Rattle.gc_cycle.specs.declared.sequel.InRegister.{InRegister}
 use Rattle.gc_cycle.specs.declared.sequel.Sequel.{Sequel}
 use Rattle.gc_cycle.specs.declared.sequel.Sequel.TheVariants as sequel
+use Rattle.gc_cycle.specs.declared.world.SealedAt.{SealedAt}
 use Rattle.gc_cycle.specs.declared.world.Turn.{Turn}
 use Rattle.gc_cycle.specs.declared.world.Turn.TheVariants as turns
 use Rattle.gc_cycle.specs.Sequels.{sequel_of}
 
 -- the layout, the commands of each thread, the words, the records of the passes in rising number, the collector and how many changes there
--- were when its awaits ended, and what there is to tell
-pub record State (R W E : Type 0) : Type 0 where
+-- were when its awaits ended, the object that it sealed last, what the last job ended with, and what there is to tell
+pub record State (R W E M : Type 0) : Type 0 where
   pub layout : Sizes
   pub commands : List (List Command)
   pub words : List ℕ
   pub passes : List (PassRecord R W E)
-  pub collector : CollectorMachine
+  pub collector : CollectorMachine M
   pub awaited : Awaited
+  pub sealed : Option SealedAt
+  pub moved : Option (MoveJob × MoveEnd)
   pub told : Telling
 
 -- ---- one party
@@ -77,36 +82,37 @@ abbrev pub PutFits : Option InRegister → Type 0
 PutFits None = Unit {0}
 PutFits (Some put) = (put.register < 8) × IsFieldWord put.word
 
-module _ {R W E : Type 0} where
+module _ {R W E M : Type 0} where
   -- parties count from 1
-  abbrev pub pass_at : State R W E → ℕ → PassRecord R W E
+  abbrev pub pass_at : State R W E M → ℕ → PassRecord R W E
   pass_at w party = slice_index_or w.passes (party - 1) nobody
 
   -- how many of its commands are answered
-  abbrev pub answered : State R W E → ℕ → ℕ
+  abbrev pub answered : State R W E M → ℕ → ℕ
   answered w party = length (answers_at w.told.answers party)
 
   -- the command that it is at, if one is left
-  abbrev pub command_at : State R W E → ℕ → Option Command
+  abbrev pub command_at : State R W E M → ℕ → Option Command
   command_at w party = slice_get (commands_at w.commands party) (answered w party)
 
   -- how many changes there are
-  abbrev pub changes_now : State R W E → ℕ
+  abbrev pub changes_now : State R W E M → ℕ
   changes_now w = length (changes_of w.told.log)
 
   -- the place of the command that a party is at, among the commands of all
-  abbrev pub place_of_command : State R W E → ℕ → ℕ
+  abbrev pub place_of_command : State R W E M → ℕ → ℕ
   place_of_command w party = before w.commands party + answered w party
 
-  abbrev pub put_pass : State R W E → ℕ → PassRecord R W E → State R W E
+  abbrev pub put_pass : State R W E M → ℕ → PassRecord R W E → State R W E M
   put_pass w party p = record w { passes = slice_set w.passes (party - 1) p }
 
   -- what a thread does after so many of its commands: the poll before the next one, or the retirement after the last
-  abbrev pub next_request : State R W E → ℕ → ℕ → Request
+  abbrev pub next_request : State R W E M → ℕ → ℕ → Request
   next_request w party count = if nat_lt count (length (commands_at w.commands party)) then requests.Poll else requests.Retire
 
-  -- ---- what a script reads of a record, and puts in it
+-- ---- what a script reads of a record, and puts in it
 
+module _ {R W E : Type 0} where
   abbrev pub face_of : PassRecord R W E → Face
   face_of p = record { pass = (let view = p.view in view.pass); registers = p.registers; seen = p.seen }
 
@@ -124,15 +130,33 @@ abbrev pub logged : List calls.Ended → Option calls.Ended → List calls.Ended
 logged log None = log
 logged log (Some e) = log ++ e ∷ []
 
--- what was seen after a step with this front; nothing is sealed yet
-abbrev pub seen_with : Front → ℕ → ℕ → ℕ
-seen_with Stays changes seen = seen
-seen_with Now changes seen = changes
-seen_with SealedOrNow changes seen = changes
-
 abbrev pub or_else : {A : Type 0} → Option A → A → A
 or_else None a = a
 or_else (Some b) a = b
+
+-- ---- what is sealed
+
+-- how many changes there were at the seal of the object that has a field at this address, if it is sealed
+abbrev pub seal_of : Option SealedAt → ℕ → Option ℕ
+seal_of None at = None
+seal_of (Some s) at = if nat_lt s.at at && nat_lt at (s.at + 1 + s.len) then Some s.changes else None
+
+-- What was seen after a step with this front, where there are so many changes: nothing more; all of them; or those at the seal of the object
+-- at which the step is, and where it is not sealed all.
+abbrev pub seen_with : Front → Option ℕ → ℕ → ℕ → ℕ
+seen_with Stays seal changes seen = seen
+seen_with Now seal changes seen = changes
+seen_with SealedOrNow seal changes seen = or_else seal changes
+
+-- after a step that seals the object of this job, if it seals one, where there are so many changes
+abbrev pub sealed_after : Option MoveJob → ℕ → Option SealedAt → Option SealedAt
+sealed_after None changes sealed = sealed
+sealed_after (Some job) changes sealed = Some (record { at = job.from; len = job.len; changes = changes })
+
+-- what a step has brought, and where it has brought nothing what was there before
+abbrev pub brought : {A : Type 0} → Option A → Option A → Option A
+brought None before = before
+brought (Some a) before = Some a
 
 -- a machine that asks for this takes no step
 abbrev pub is_ended : Step → Bool
@@ -143,21 +167,21 @@ is_ended step = false
 
 module _ {R W E M : Type 0} (kit : Kit R W E M) where
   -- the pass begins the machine that does what is asked, if the register leads to an object
-  abbrev pub begun_at : State R W E → ℕ → PassRecord R W E → Request → State R W E
+  abbrev pub begun_at : State R W E M → ℕ → PassRecord R W E → Request → State R W E M
   begun_at w party p request = put_pass w party (or_else (started kit w.layout p request) p)
 
   -- the command is answered, and the pass goes on to its next one
-  abbrev pub answered_with : State R W E → ℕ → PassRecord R W E → Answer → Option calls.Ended → State R W E
+  abbrev pub answered_with : State R W E M → ℕ → PassRecord R W E → Answer → Option calls.Ended → State R W E M
   answered_with w party p answer call = begun_at (record w {
     told = record w.told { answers = with_answer w.told.answers party answer; log = logged w.told.log call };
   }) party p (next_request w party (answered w party + 1))
 
   -- a command begins, or is answered as one that leads to no object
-  abbrev pub access_begun : State R W E → ℕ → PassRecord R W E → Option (PassRecord R W E) → State R W E
+  abbrev pub access_begun : State R W E M → ℕ → PassRecord R W E → Option (PassRecord R W E) → State R W E M
   access_begun w party p None = answered_with w party p answers.NotLink None
   access_begun w party p (Some next) = put_pass w party next
 
-  abbrev pub followed_at : State R W E → ℕ → PassRecord R W E → Sequel → State R W E
+  abbrev pub followed_at : State R W E M → ℕ → PassRecord R W E → Sequel → State R W E M
   followed_at w party p sequel.Nothing = put_pass w party p
   followed_at w party p (sequel.Starts request) = access_begun w party p (started kit w.layout p request)
   followed_at w party p (sequel.Answered put answer ended) = answered_with w party (in_front (with_put p put) ended) answer ended
@@ -166,87 +190,101 @@ module _ {R W E M : Type 0} (kit : Kit R W E M) where
   }) party p requests.Poll
 
   -- at the command that it is at, and after the last one
-  abbrev pub concluded_by : State R W E → ℕ → PassRecord R W E → MachineEnd → Option Command → State R W E
+  abbrev pub concluded_by : State R W E M → ℕ → PassRecord R W E → MachineEnd → Option Command → State R W E M
   concluded_by w party p end None = put_pass w party p
   concluded_by w party p end (Some command) = followed_at w party p (sequel_of (changes_now w) command (face_of p) end)
 
   -- its machine has ended so
-  abbrev pub concluded_at : State R W E → ℕ → MachineEnd → State R W E
+  abbrev pub concluded_at : State R W E M → ℕ → MachineEnd → State R W E M
   concluded_at w party end = concluded_by w party (with_end (pass_at w party) end) end (command_at w party)
 
-  abbrev pub settled_by : State R W E → ℕ → Option MachineEnd → State R W E
+  abbrev pub settled_by : State R W E M → ℕ → Option MachineEnd → State R W E M
   settled_by w party None = w
   settled_by w party (Some end) = concluded_at w party end
 
   -- what follows from its step without a further step
-  abbrev pub settled_at : State R W E → ℕ → State R W E
+  abbrev pub settled_at : State R W E M → ℕ → State R W E M
   settled_at w party = let p = pass_at w party in settled_by w party (ended_of kit p.machine)
 
 module _ {R W E M : Type 0} (kit : Kit R W E M) (by : Stepping R W E M) where
-  abbrev pub asks_at : State R W E → ℕ → Step
+  abbrev pub asks_at : State R W E M → ℕ → Step
   asks_at w party = let p = pass_at w party in passes.asks_of by.read_asks by.write_asks by.exchange_asks p.machine
 
   -- the word that its step finds
-  abbrev pub found_at : State R W E → ℕ → ℕ
+  abbrev pub found_at : State R W E M → ℕ → ℕ
   found_at w party = found_by (asks_at w party) w.words
 
-  -- its record when its machine was fed that word: where its step is a look, the pass has seen all changes so far
-  abbrev pub fed_at : State R W E → ℕ → PassRecord R W E
+  -- how many changes there were at the seal of the object at which its step is, if that is sealed
+  abbrev pub seal_at : State R W E M → ℕ → Option ℕ
+  seal_at w party = seal_of w.sealed (place_of (asks_at w party))
+
+  -- its record when its machine was fed that word: where its step is a look, the pass has seen all changes so far, or those at the seal
+  abbrev pub fed_at : State R W E M → ℕ → PassRecord R W E
   fed_at w party = let p = pass_at w party in record p {
     machine = passes.fed_of by.read_fed by.write_fed by.exchange_fed p.machine (found_at w party);
-    seen = seen_with (passes.front_of by.read_front by.write_front by.exchange_front p.machine (found_at w party)) (changes_now w) p.seen;
+    seen = seen_with (passes.front_of by.read_front by.write_front by.exchange_front p.machine (found_at w party)) (seal_at w party) (changes_now w) p.seen;
   }
 
   -- the world after its step alone
-  abbrev pub stepped : State R W E → ℕ → State R W E
+  abbrev pub stepped : State R W E M → ℕ → State R W E M
   stepped w party = put_pass (record w { words = applied (asks_at w party) w.words }) party (fed_at w party)
 
-  abbrev pub taken : State R W E → ℕ → State R W E
+  abbrev pub taken : State R W E M → ℕ → State R W E M
   taken w party = settled_at kit (stepped w party) party
 
   -- ---- all parties
 
+  -- the step that the collector asks for
+  abbrev pub collector_asks : State R W E M → Step
+  collector_asks w = collectors.asks_of by.move_asks w.collector
+
+  -- the word that the collector's step finds
+  abbrev pub collector_found : State R W E M → ℕ
+  collector_found w = found_by (collector_asks w) w.words
+
   -- the world after the collector's step
-  abbrev pub collected : State R W E → State R W E
-  collected w = let next = collectors.fed_of w.collector (found_by (collectors.asks_of w.collector) w.words) in record w {
-    words = applied (collectors.asks_of w.collector) w.words;
+  abbrev pub collected : State R W E M → State R W E M
+  collected w = let next = collectors.fed_of kit by.move_fed w.collector (collector_found w) in record w {
+    words = applied (collector_asks w) w.words;
     collector = next;
     awaited = awaits_behind w.collector next (changes_now w) w.awaited;
+    sealed = sealed_after (seals_of w.collector (collector_asks w) (collector_found w)) (changes_now w) w.sealed;
+    moved = brought (move_ended kit by.move_fed w.collector (collector_found w)) w.moved;
   }
 
   -- the collector is the party after the threads
-  abbrev pub is_collector : State R W E → ℕ → Bool
+  abbrev pub is_collector : State R W E M → ℕ → Bool
   is_collector w party = nat_lt w.layout.passes party
 
   -- the step of a party's next turn
-  abbrev pub next_of : State R W E → ℕ → Step
-  next_of w party = if is_collector w party then collectors.asks_of w.collector else asks_at w party
+  abbrev pub next_of : State R W E M → ℕ → Step
+  next_of w party = if is_collector w party then collector_asks w else asks_at w party
 
   -- whether a party's turn takes a step
-  abbrev pub can_step : State R W E → ℕ → Bool
+  abbrev pub can_step : State R W E M → ℕ → Bool
   can_step w party = not (is_ended (next_of w party))
 
   -- the world after a turn of a party: one that waits or has ended takes no step
-  abbrev pub turn_of : State R W E → ℕ → State R W E
+  abbrev pub turn_of : State R W E M → ℕ → State R W E M
   turn_of w party = if can_step w party then (if is_collector w party then collected w else taken w party) else w
 
   -- every thread has ended
-  abbrev pub all_retired : State R W E → Bool
+  abbrev pub all_retired : State R W E M → Bool
   all_retired w = list_all (λ p. is_ended (passes.asks_of by.read_asks by.write_asks by.exchange_asks p.machine)) w.passes
 
   -- What the turn of a party says of it where it takes no step: the collector waits for the threads, and has ended when all have.
-  abbrev pub rest_said : State R W E → ℕ → Turn
+  abbrev pub rest_said : State R W E M → ℕ → Turn
   rest_said w party = if is_collector w party && not (all_retired w) then turns.Idle else turns.Ended
 
-  abbrev pub turn_said : State R W E → ℕ → Turn
+  abbrev pub turn_said : State R W E M → ℕ → Turn
   turn_said w party = if can_step w party then turns.Took (next_of w party) else rest_said w party
 
   -- turns in this order, and how many of them take a step
-  abbrev pub played : State R W E → List ℕ → State R W E
+  abbrev pub played : State R W E M → List ℕ → State R W E M
   played w [] = w
   played w (party ∷ rest) = played (turn_of w party) rest
 
-  abbrev pub steps_in : State R W E → List ℕ → ℕ
+  abbrev pub steps_in : State R W E M → List ℕ → ℕ
   steps_in w [] = 0
   steps_in w (party ∷ rest) = (if can_step w party then 1 else 0) + steps_in (turn_of w party) rest
 
@@ -285,14 +323,16 @@ module _ {R W E M : Type 0} (kit : Kit R W E M) where
   opening_passes l party [] = []
   opening_passes l party (commands ∷ later) = opening_pass l commands party ∷ opening_passes l (party + 1) later
 
-  abbrev pub opening_state : Reading → State R W E
+  abbrev pub opening_state : Reading → State R W E M
   opening_state s = record {
     layout = s.layout;
     commands = commands_by s.layout.passes s.lines;
     words = opening_words s.layout;
     passes = opening_passes s.layout 1 (commands_by s.layout.passes s.lines);
-    collector = collector_of s.layout s.cycles;
+    collector = collector_of kit s.layout s.cycles;
     awaited = none_awaited;
+    sealed = None;
+    moved = None;
     told = opening_telling (commands_by s.layout.passes s.lines);
   }
 
@@ -311,16 +351,16 @@ SequelFits (sequel.Starts request) = Fits request
 SequelFits (sequel.Answered put answer ended) = PutFits put
 SequelFits s = Unit {0}
 
-module _ {R W E : Type 0} where
+module _ {R W E M : Type 0} where
   -- there are such a thread, and answers of it
-  pub record IsThere (w : State R W E) (party : ℕ) : Type 0 where
+  pub record IsThere (w : State R W E M) (party : ℕ) : Type 0 where
     pub least : 1 ≤ party
     pub passes : party ≤ length w.passes
     pub commands : party ≤ length w.commands
     pub answers : party ≤ length w.told.answers
 
   -- and room for what it will tell
-  pub record CanTell (w : State R W E) (party : ℕ) : Type 0 where
+  pub record CanTell (w : State R W E M) (party : ℕ) : Type 0 where
     pub there : IsThere w party
     pub room : answered w party < room_at w.told.rooms party
     pub log : length w.told.log < w.told.log_room
@@ -329,25 +369,25 @@ module _ {R W E : Type 0} where
     pub changes : changes_now w < 2 ^ 31
 
   -- what comes of a record whose machine has ended can be done
-  pub record CanFollow (w : State R W E) (party : ℕ) (p : PassRecord R W E) (command : Command) : Type 0 where
+  pub record CanFollow (w : State R W E M) (party : ℕ) (p : PassRecord R W E) (command : Command) : Type 0 where
     pub tell : CanTell w party
     pub ready : IsReady w.layout p
     pub fits : CommandFits command
 
-  pub record CanConclude (w : State R W E) (party : ℕ) (end : MachineEnd) : Type 0 where
+  pub record CanConclude (w : State R W E M) (party : ℕ) (end : MachineEnd) : Type 0 where
     pub there : IsThere w party
     pub births : HasBirths (let p = pass_at w party in p.made) end
     pub word : EndFits end
     pub follow : ForSome (command_at w party) (λ c. CanFollow w party (with_end (pass_at w party) end) c)
 
 module _ {R W E M : Type 0} (kit : Kit R W E M) where
-  pub record CanSettle (w : State R W E) (party : ℕ) : Type 0 where
+  pub record CanSettle (w : State R W E M) (party : ℕ) : Type 0 where
     pub there : IsThere w party
     pub conclude : ForSome (let p = pass_at w party in ended_of kit p.machine) (λ end. CanConclude w party end)
 
 module _ {R W E M : Type 0} (kit : Kit R W E M) (by : Stepping R W E M) where
   -- the thread's machine can take its next step
-  pub record CanTake (w : State R W E) (party : ℕ) : Type 0 where
+  pub record CanTake (w : State R W E M) (party : ℕ) : Type 0 where
     pub inside : IsInside (length w.words) (asks_at kit by w party)
     pub goes_on : asks_at kit by w party ≢ Ended
     pub settle : CanSettle kit (stepped kit by w party) party

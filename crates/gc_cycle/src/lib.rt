@@ -9,4 +9,7 @@ mod world;
 pub use schedule::{Schedule, StepsSpent};
 pub use sequel::{Face, InRegister, Sequel, what_follows};
 pub use stepping::Steps;
-pub use world::{Turn, World};
+pub use world::{SealedAt, Turn, World};
+
+#[cfg(test)]
+mod collector_tests;

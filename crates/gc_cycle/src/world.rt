@@ -2,10 +2,9 @@
 
 ghost use Rattle.std.specs.Prelude.{◌≡◌, ◌≢◌, ◌≤◌, length};
 ghost use Rattle.call_steps.specs.declared.step.Step.TheVariants.{Ended as StepEnded};
-ghost use Rattle.call_steps.specs.Steps.{IsInside};
+ghost use Rattle.call_steps.specs.Steps.{IsInside, place_of as place_of_step};
 ghost use Rattle.barriers.specs.Records.{IsReady, Fits, started};
-ghost use Rattle.lawful_records.specs.Collectors.{asks_of as collector_asks};
-ghost use Rattle.gc_cycle.specs.Worlds.{CanTell, CanConclude, CanSettle, CanTake, IsThere, PutFits, SequelFits, command_at, seen_with as seen_with_of, with_put as with_put_of, in_front as in_front_of, face_of, put_pass as put_pass_in, next_request as next_request_in, begun_at, access_begun, answered_with, followed_at, concluded_at, settled_at, asks_at, stepped as stepped_in, taken as taken_in, collected};
+ghost use Rattle.gc_cycle.specs.Worlds.{CanTell, CanConclude, CanSettle, CanTake, IsThere, PutFits, SequelFits, command_at, seal_of as seal_of_address, seen_with as seen_with_of, sealed_after as sealed_after_step, with_put as with_put_of, in_front as in_front_of, face_of, put_pass as put_pass_in, next_request as next_request_in, begun_at, access_begun, answered_with, followed_at, concluded_at, settled_at, asks_at, stepped as stepped_in, taken as taken_in, collector_asks, collected};
 
 mod opening;
 mod playing;
@@ -13,12 +12,15 @@ mod showing;
 
 use crate::sequel::{Face, InRegister, Sequel, what_follows};
 use crate::stepping::Steps;
-use barriers::{Copier, Front, MachineEnd, PassRecord, Request, Watched, end_of, start, with_end};
+use barriers::{
+    Copier, Front, MachineEnd, MoveEnd, PassRecord, Request, Watched, end_of, start, with_end,
+};
 use call_steps::{Machine, PlainWords, Step};
 use heap_history::Ended;
 use heap_script::{Answer, Command, Commands, Refusal, Told};
 use heap_words::Layout;
-use lawful_records::{Awaited, CollectorMachine};
+use lawful_records::{Awaited, CollectorMachine, feed_collector, move_end_of};
+use space_reclaim::MoveJob;
 use std::marker::Model;
 
 /// What a party's turn was.
@@ -32,6 +34,17 @@ pub enum Turn {
     Ended,
 }
 
+/// An object that the collector has sealed: no word of it changes from then on.
+#[derive(Clone, Copy, Debug, PartialEq, Eq)]
+pub struct SealedAt {
+    /// The address of its header.
+    pub at: u32,
+    /// How many fields it has.
+    pub len: u32,
+    /// How many changes there were at its seal.
+    pub changes: u32,
+}
+
 /// The passes of a script, which play its commands, the collector, the words on which they step, and what there is
 /// to tell. The parties are the threads, which count from 1, and after them the collector.
 #[derive(Drop)]
@@ -40,26 +53,69 @@ pub struct World<P: Copier> {
     commands: Commands,
     words: PlainWords,
     passes: Vec<PassRecord<P::Read, P::Write, P::Exchange>>,
-    collector: CollectorMachine,
+    collector: CollectorMachine<P::Move>,
     awaited: Awaited,
+    sealed: Option<SealedAt>,
+    moved: Option<(MoveJob, MoveEnd)>,
     told: Told,
 }
 
 impl<P: Copier> Model for World<P> {
     ghost use Rattle.gc_cycle.specs.Worlds.{State};
 
-    ghost Value = { State P.Read P.Write P.Exchange };
+    ghost Value = { State P.Read P.Write P.Exchange P.Move };
 
-    ghost view = { λ w. record { layout = w.layout; commands = w.commands; words = w.words; passes = w.passes.items; collector = w.collector; awaited = w.awaited; told = w.told } };
+    ghost view = { λ w. record { layout = w.layout; commands = w.commands; words = w.words; passes = w.passes.items; collector = w.collector; awaited = w.awaited; sealed = w.sealed; moved = w.moved; told = w.told } };
 }
 
-/// How many changes a pass has seen after a step with this front. Nothing is sealed yet.
-fn seen_with(front: Front, changes: u32, seen: u32) -> u32
-    ensures { result ≡ seen_with_of front changes seen }
+/// The address of the word on which a step is; 0 for `Ended`.
+fn place_of(step: Step) -> u32
+    ensures { result ≡ place_of_step step }
+{
+    match step {
+        Step::Load { at }
+        | Step::Store { at, .. }
+        | Step::Exchange { at, .. }
+        | Step::Add { at, .. }
+        | Step::Sub { at, .. } => at,
+        Step::Ended => 0,
+    }
+}
+
+/// How many changes there were at the seal of the object that has a field at this address, if it is sealed.
+fn seal_of(sealed: Option<SealedAt>, at: u32) -> Option<u32>
+    ensures { result ≡ seal_of_address sealed at }
+{
+    let object = sealed?;
+    if object.at < at && u64::from(at) < u64::from(object.at) + 1 + u64::from(object.len) {
+        Some(object.changes)
+    } else {
+        None
+    }
+}
+
+/// How many changes a pass has seen after a step with this front, at an object that was sealed after so many.
+fn seen_with(front: Front, seal: Option<u32>, changes: u32, seen: u32) -> u32
+    ensures { result ≡ seen_with_of front seal changes seen }
 {
     match front {
         Front::Stays => seen,
-        Front::Now | Front::SealedOrNow => changes,
+        Front::Now => changes,
+        Front::SealedOrNow => seal.unwrap_or(changes),
+    }
+}
+
+/// What is sealed after a step that seals the object of this job, if it seals one.
+fn sealed_after(job: Option<MoveJob>, changes: u32, sealed: Option<SealedAt>) -> Option<SealedAt>
+    ensures { result ≡ sealed_after_step job changes sealed }
+{
+    match job {
+        None => sealed,
+        Some(job) => Some(SealedAt {
+            at: job.from,
+            len: job.len,
+            changes,
+        }),
     }
 }
 
@@ -112,6 +168,7 @@ where
     P::Read: Copy,
     P::Write: Copy,
     P::Exchange: Copy,
+    P::Move: Copy,
 {
     fn put_pass(&mut self, party: u32, pass: PassRecord<P::Read, P::Write, P::Exchange>)
         requires party { (1 ≤ party) × (party ≤ length self.old.passes) }
@@ -265,9 +322,10 @@ where
         ensures { self.new ≡ stepped_in P.kit ⟦<P as Steps>⟧.by self.old party }
     {
         let changes = self.told.changes();
+        let seal = seal_of(self.sealed, place_of(step));
         let found = self.words.apply(step);
         let pass = &mut self.passes[party as usize - 1];
-        pass.seen = seen_with(pass.machine.front(found), changes, pass.seen);
+        pass.seen = seen_with(pass.machine.front(found), seal, changes, pass.seen);
         pass.machine.feed(found);
     }
 
@@ -284,17 +342,18 @@ where
 
     /// The collector takes the step that it asks for.
     fn collect(&mut self, step: Step)
-        requires asked { step ≡ collector_asks self.old.collector }
+        requires asked { step ≡ collector_asks P.kit ⟦<P as Steps>⟧.by self.old }
         requires inside { IsInside (length self.old.words) step }
         requires goes_on { step ≢ StepEnded }
         ensures { self.new ≡ collected P.kit ⟦<P as Steps>⟧.by self.old }
     {
+        let changes = self.told.changes();
         let before = self.collector;
         let found = self.words.apply(step);
-        self.collector.feed(found);
-        self.awaited = self
-            .awaited
-            .behind(&before, &self.collector, self.told.changes());
+        self.sealed = sealed_after(before.sealed(step, found), changes, self.sealed);
+        self.moved = move_end_of::<P>(&before, found).or(self.moved);
+        feed_collector::<P>(&mut self.collector, found);
+        self.awaited = self.awaited.behind(&before, &self.collector, changes);
     }
 }
 

@@ -30,6 +30,7 @@ use Rattle.lawful_records.specs.declared.records.Party.{Party}
 use Rattle.lawful_records.specs.declared.records.Party.TheVariants as party
 use Rattle.gc_cycle.specs.Worlds.{State, nobody, or_else, pass_at, opening_words, opening_registers, fresh_pass, opening_pass, opening_passes, opening_state}
 use Rattle.gc_cycle.specs.Lawful.{Lawful, HasRoom, IsScript, IsThread, IsThreadOf, IsAt, known_in, records_in, rooms_of, thread_of}
+use Rattle.gc_cycle.proofs.records.Stepped.{in_pass}
 use Rattle.gc_cycle.proofs.opening.Starts.{known_as, collector_at_start, records_start}
 
 module _ {R W E M : Type 0} (kit : Kit R W E M) where
@@ -108,12 +109,12 @@ module _ {R W E M : Type 0} (kit : Kit R W E M) (s : Reading) (script : IsScript
   none_seen (suc n) = refl
 
   -- no change is seen, and no call told
-  passes_known : (ps : List (PassRecord R W E)) → map (λ p. party.Pass (known_as p)) ps ≡ map (λ p. party.Pass (known_in (opening_state kit s) p)) ps
+  passes_known : (ps : List (PassRecord R W E)) → map (λ p. party.Pass (known_as p)) ps ≡ map (in_pass (opening_state kit s)) ps
   passes_known [] = refl
   passes_known (p ∷ ps) =
-      let here : Party R W E = party.Pass (known_in (opening_state kit s) p) in
+      let here : Party R W E M = party.Pass (known_in (opening_state kit s) p) in
       let same : party.Pass (known_as p) ≡ here = ap (λ (seen : List Call). party.Pass (record { pass = p; seen = seen; mine = []; ended = [] })) (sym (none_seen (0 - p.seen))) in
-      ap (λ (q : Party R W E). q ∷ map (λ p. party.Pass (known_as p)) ps) same ∙ ap (λ (qs : List (Party R W E)). here ∷ qs) (passes_known ps)
+      ap (λ (q : Party R W E M). q ∷ map (λ p. party.Pass (known_as p)) ps) same ∙ ap (λ (qs : List (Party R W E M)). here ∷ qs) (passes_known ps)
 
   -- ---- the threads
 
@@ -140,17 +141,18 @@ module _ {R W E M : Type 0} (kit : Kit R W E M) (s : Reading) (script : IsScript
 
 module _ {R W E M : Type 0} (kit : Kit R W E M) (by : Stepping R W E M) (laws : Laws kit by) (s : Reading) where
   -- the records that are read off the world
-  records_known : (let w : State R W E = opening_state kit s in IsScript s.layout w.commands) → s.cycles ≤ 64 → LawfulRecords kit s.layout (opening_words s.layout) (records_in (opening_state kit s))
+  records_known : (let w : State R W E M = opening_state kit s in IsScript s.layout w.commands) → s.cycles ≤ 64 → LawfulRecords kit s.layout (opening_words s.layout) (records_in (opening_state kit s))
   records_known script few =
       let lists : List (List Command) = commands_by s.layout.passes s.lines in
-      let collector : List (Party R W E) = collector_at_start s.layout s.cycles ∷ [] in
-      subst (λ (rs : List (Party R W E)). LawfulRecords kit s.layout (opening_words s.layout) (rs ++ collector)) (passes_known kit s script (opening_passes kit s.layout 1 lists))
+      let collector : List (Party R W E M) = collector_at_start kit s.layout s.cycles ∷ [] in
+      subst (λ (rs : List (Party R W E M)). LawfulRecords kit s.layout (opening_words s.layout) (rs ++ collector)) (passes_known kit s script (opening_passes kit s.layout 1 lists))
       (records_start kit by laws s.layout lists s.cycles script.layout script.threads few)
 
 -- The world at the start is lawful.
-pub opening_is_lawful : {R W E M : Type 0} (kit : Kit R W E M) (by : Stepping R W E M) (laws : Laws kit by) (s : Reading) → IsScript s.layout (let w : State R W E = opening_state kit s in w.commands) → s.cycles ≤ 64 → Lawful kit (opening_state kit s)
+pub opening_is_lawful : {R W E M : Type 0} (kit : Kit R W E M) (by : Stepping R W E M) (laws : Laws kit by) (s : Reading) → IsScript s.layout (let w : State R W E M = opening_state kit s in w.commands) → s.cycles ≤ 64 → Lawful kit (opening_state kit s)
 opening_is_lawful kit by laws s script few = record {
   records = records_known kit by laws s script few;
+  sealed = λ one is. absurd cc;
   script = script;
   passes = length-opening_passes kit s.layout 1 (commands_by s.layout.passes s.lines) ∙ script.threads;
   room = has_room kit s script;

@@ -24,8 +24,8 @@ abbrev pub known_as : {R W E : Type 0} → PassRecord R W E → PassKnown R W E
 known_as p = record { pass = p; seen = []; mine = []; ended = [] }
 
 -- a collector before its first step
-abbrev pub collector_at_start : {R W E : Type 0} → Sizes → ℕ → Party R W E
-collector_at_start l cycles = party.Collector (record { machine = collector_of l cycles; awaited = none_awaited; sealed = [] })
+abbrev pub collector_at_start : {R W E M : Type 0} → Kit R W E M → Sizes → ℕ → Party R W E M
+collector_at_start kit l cycles = party.Collector (record { machine = collector_of kit l cycles; awaited = none_awaited; sealed = [] })
 
 module _ {R W E M : Type 0} (kit : Kit R W E M) (by : Stepping R W E M) (laws : Laws kit by) (l : Sizes) where
   -- before its first command it polls, and without a command it retires
@@ -37,20 +37,20 @@ module _ {R W E M : Type 0} (kit : Kit R W E M) (by : Stepping R W E M) (laws : 
   pass_starts commands pass = starts_by pass (nat_lt 0 (length commands))
 
   -- each pass begins its first machine, whoever else there is
-  passes_start : (words : List ℕ) (lists : List (List Command)) (first : ℕ) (others : List (Party R W E)) → LawfulRecords kit l words (opening.opening_passes l first (length lists) ++ others)
+  passes_start : (words : List ℕ) (lists : List (List Command)) (first : ℕ) (others : List (Party R W E M)) → LawfulRecords kit l words (opening.opening_passes l first (length lists) ++ others)
       → LawfulRecords kit l words (map (λ p. party.Pass (known_as p)) (opening_passes kit l first lists) ++ others)
   passes_start words [] first others w = w
   passes_start words (commands ∷ later) first others w =
-      let begun : Party R W E = party.Pass (known_as (opening_pass kit l commands first)) in
-      let waits : List (Party R W E) = opening.opening_passes l (first + 1) (length later) in
-      let rest : List (Party R W E) = map (λ p. party.Pass (known_as p)) (opening_passes kit l (first + 1) later) in
+      let begun : Party R W E M = party.Pass (known_as (opening_pass kit l commands first)) in
+      let waits : List (Party R W E M) = opening.opening_passes l (first + 1) (length later) in
+      let rest : List (Party R W E M) = map (λ p. party.Pass (known_as p)) (opening_passes kit l (first + 1) later) in
       let one : LawfulRecords kit l words (begun ∷ (waits ++ others)) = lawful_starts kit by laws l words (waits ++ others) (party.Pass (opening.opening_pass l first)) begun w (on still (inr (inr (pass_starts commands first)))) in
       let aside : LawfulRecords kit l words (waits ++ begun ∷ others) = lawful_regroups kit l words (begun ∷ (waits ++ others)) (waits ++ begun ∷ others) (IsPermutation-sym _ _ (IsPermutation-middle waits begun others)) one in
       lawful_regroups kit l words (rest ++ begun ∷ others) (begun ∷ (rest ++ others)) (IsPermutation-middle rest begun others) (passes_start words later (first + 1) (begun ∷ others) aside)
 
   -- all have begun
   pub records_start : (lists : List (List Command)) (cycles : ℕ) → IsLayout l → length lists ≡ l.passes → cycles ≤ 64
-      → LawfulRecords kit l (opening_words l) (map (λ p. party.Pass (known_as p)) (opening_passes kit l 1 lists) ++ collector_at_start l cycles ∷ [])
+      → LawfulRecords kit l (opening_words l) (map (λ p. party.Pass (known_as p)) (opening_passes kit l 1 lists) ++ collector_at_start kit l cycles ∷ [])
   records_start lists cycles il counted few =
-      passes_start (opening_words l) lists 1 (collector_at_start l cycles ∷ [])
-      (subst (λ (n : ℕ). LawfulRecords kit l (opening_words l) (opening.opening_passes l 1 n ++ collector_at_start l cycles ∷ [])) (sym counted) (lawful_opens kit by laws l cycles il few))
+      passes_start (opening_words l) lists 1 (collector_at_start kit l cycles ∷ [])
+      (subst (λ (n : ℕ). LawfulRecords kit l (opening_words l) (opening.opening_passes l 1 n ++ collector_at_start kit l cycles ∷ [])) (sym counted) (lawful_opens kit by laws l cycles il few))

@@ -47,8 +47,8 @@ use Rattle.gc_cycle.proofs.records.Ends.{Outcome, Polls, Makes, Reads, Writes, E
 use Rattle.gc_cycle.proofs.records.Following.{followed_by, follows, takes_in, end_seen}
 use Rattle.gc_cycle.proofs.records.Growing.{IsToldBy, IsCallOf, sequel_told, changed_call, history_grown, change_owned}
 use Rattle.gc_cycle.proofs.records.Leaving.{Leaves, leaves_after, followed_leaves, followed_face, put_leaves, next_of_world}
-use Rattle.gc_cycle.proofs.records.Shares.{Grown, number_at, record_at}
-use Rattle.gc_cycle.proofs.records.Stepped.{turned_in, calls_kept, turned_number, view_is, changes_are, looked_same, known_after}
+use Rattle.gc_cycle.proofs.records.Shares.{Grown, number_at, record_at, changes_are}
+use Rattle.gc_cycle.proofs.records.Stepped.{seal_seen, turned_in, calls_kept, turned_number, view_is, looked_same, known_after}
 use Rattle.gc_cycle.proofs.records.Turns.{Comes}
 
 making_few : (l : Sizes) (s : Space) (pass : ℕ) (room : Room) (made : ℕ) (x : NewMachine) → makes.asks_of x ≢ Ended → IsMaking l s pass room made x → made < 262144
@@ -72,9 +72,9 @@ module _ {R W E M : Type 0} (kit : Kit R W E M) (by : Stepping R W E M) where
   few_by l c s n p (machine.New y) on is x m_is = making_few l s (number_of p) p.pass.room p.pass.made y on is
   few_by l c s n p m on is x m_is = absurd cc
 
-  seen_has : (change : Option Call) (front : Front) (h seen : List Call) → HasSeen kit by (seen_by change front None h seen) change
-  seen_has (Some c) front h seen = (h, refl)
-  seen_has None front h seen = tt
+  seen_has : (change : Option Call) (front : Front) (seal : Option (List Call)) (h seen : List Call) → HasSeen kit by (seen_by change front seal h seen) change
+  seen_has (Some c) front seal h seen = (h, refl)
+  seen_has None front seal h seen = tt
 
   -- after its last command a pass makes no change
   after_unmade : (m : PassMachine R W E) (n : ℕ) (end : MachineEnd) → IsAfter kit m → Outcome kit (pass_fed kit by m n) end → is_made end ≡ false
@@ -103,7 +103,7 @@ module _ {R W E M : Type 0} (kit : Kit R W E M) (by : Stepping R W E M) where
   same_turned : (q : PassKnown R W E) (count : ℕ) → count ≡ (let pass = q.pass in pass.seen) → Path (PassKnown R W E) (record q { pass = record q.pass { seen = count }; ended = q.ended ++ [] }) q
   same_turned q count is = ap (λ (k : ℕ). record q { pass = record q.pass { seen = k }; ended = q.ended ++ [] }) is ∙ ap (λ (es : List EndedCall). record q { ended = es }) (append-nil q.ended)
 
-  module _ (laws : Laws kit by) (w : State R W E) (lawful : Lawful kit w) (number : ℕ) (is : IsPass w.layout number) (on : asks_at kit by w number ≢ Ended) where
+  module _ (laws : Laws kit by) (w : State R W E M) (lawful : Lawful kit w) (number : ℕ) (is : IsPass w.layout number) (on : asks_at kit by w number ≢ Ended) where
     abbrev p : PassRecord R W E
     p = pass_at w number
 
@@ -122,7 +122,7 @@ module _ {R W E M : Type 0} (kit : Kit R W E M) (by : Stepping R W E M) where
     abbrev fed : PassRecord R W E
     fed = fed_at kit by w number
 
-    abbrev w1 : State R W E
+    abbrev w1 : State R W E M
     w1 = stepped kit by w number
 
     abbrev words : List ℕ
@@ -132,7 +132,7 @@ module _ {R W E M : Type 0} (kit : Kit R W E M) (by : Stepping R W E M) where
     same_pass = number_at kit w lawful number is ∙ sym (view_is kit by laws w lawful number is)
 
     stepped_leaves : Leaves w number words w1 fed None
-    stepped_leaves = record { layout = refl; words = refl; passes = refl; collector = refl; awaited = refl; log = refl }
+    stepped_leaves = record { layout = refl; words = refl; passes = refl; collector = refl; awaited = refl; sealed = refl; log = refl }
 
     -- its machine goes on
     pub goes_on : ended_of kit (pass_fed kit by p.machine n) ≡ None → Comes kit by w number w1
@@ -168,13 +168,13 @@ module _ {R W E M : Type 0} (kit : Kit R W E M) (by : Stepping R W E M) where
       look unmade = looked_same kit by laws w lawful number is (subst (λ (b : Bool). ChangesSo b change) unmade changes)
 
       seen_is : (c : Call) → change ≡ Some c → q.seen ≡ c ∷ h
-      seen_is c c_is = ap (λ (o : Option Call). seen_by o (front_by kit by p.machine n) None h (seen_of h p.seen)) c_is
+      seen_is c c_is = ap (λ (o : Option Call). seen_by o (front_by kit by p.machine n) (seal_seen kit by w number) h (seen_of h p.seen)) c_is
 
       made : is_made end ≡ true → length q.seen ≡ changes_now w + 1
       made change_made =
           let has = subst (λ (b : Bool). ChangesSo b change) change_made changes in
           let count : length q.seen ≡ length (has.0 ∷ h) = ap (λ (cs : List Call). length cs) (seen_is has.0 has.1) in
-          omega (arith, count, changes_are kit by laws w lawful number is)
+          omega (arith, count, changes_are kit w lawful)
 
       changed : (c : Call) → change ≡ Some c → IsCallOf (call_ended kit q) c
       changed c c_is = changed_call kit by (known_in w p) p.machine n (length q.seen) q.seen q.mine h c (ap (λ (m : ℕ). change_by kit by p.machine m n) (sym same_pass) ∙ c_is) (seen_is c c_is)
@@ -183,7 +183,7 @@ module _ {R W E M : Type 0} (kit : Kit R W E M) (by : Stepping R W E M) where
       rest_pass = ap (λ (x : PassRecord R W E). x.view.pass) (with_end_is kit by laws fed end so) ∙ turned_number kit by laws w lawful number is on
 
       -- where this record is left and this call has ended
-      comes : (next : State R W E) (pass : PassRecord R W E) (call : Option EndedCall) → Leaves w number words next pass call → IsToldBy number (is_made end) call → call_ended kit q ≡ listed call
+      comes : (next : State R W E M) (pass : PassRecord R W E) (call : Option EndedCall) → Leaves w number words next pass call → IsToldBy number (is_made end) call → call_ended kit q ≡ listed call
           → pass.view.pass ≡ number → pass.seen ≡ length q.seen → BeginsOn kit w.layout (parties.Pass q) (parties.Pass (record q { pass = pass; ended = q.ended ++ call_ended kit q })) → Comes kit by w number next
       comes next pass call leaves told ends view seen begins =
           let grown : Grown w.told.log call change number = record {
@@ -213,7 +213,7 @@ module _ {R W E M : Type 0} (kit : Kit R W E M) (by : Stepping R W E M) where
           let fits : CommandFits c = All-slice_get CommandFits (commands_at w.commands number) _ c (lawful.script.commands number is) c_is in
           let at : IsAtCommand kit l p (Some c) = subst (IsAtCommand kit l p) c_is (lawful.threads number is).at in
           let has : HasSeen kit by q.seen (change_by kit by p.machine p.view.pass n) =
-          subst (λ (m : ℕ). HasSeen kit by q.seen (change_by kit by p.machine m n)) same_pass (seen_has change (front_by kit by p.machine n) h (seen_of h p.seen)) in
+          subst (λ (m : ℕ). HasSeen kit by q.seen (change_by kit by p.machine m n)) same_pass (seen_has change (front_by kit by p.machine n) (seal_seen kit by w number) h (seen_of h p.seen)) in
           let done : IsDone kit q c (pass_fed kit by p.machine n) =
           done_after kit by l (known_in w p) p.machine n (length q.seen) q.seen q.mine c end lawful.script.layout (subst (IsPass l) (sym (view_is kit by laws w lawful number is)) is)
           (few_by l _ r.space r.notices (known_in w p) p.machine on its.machine) fits at (calls_kept kit by laws w lawful number is on) has so in

@@ -19,41 +19,43 @@ use Rattle.gc_cycle.proofs.records.Ends.{called, seen_with_call}
 use Rattle.gc_cycle.proofs.records.Following.{begun_or, followed_by}
 
 -- the words are these, the record of one pass is this, and this call has ended
-pub record Leaves {R W E : Type 0} (w : State R W E) (party : ℕ) (after : List ℕ) (next : State R W E) (p : PassRecord R W E) (call : Option Ended) : Type 0 where
+pub record Leaves {R W E M : Type 0} (w : State R W E M) (party : ℕ) (after : List ℕ) (next : State R W E M) (p : PassRecord R W E) (call : Option Ended) : Type 0 where
   pub layout : next.layout ≡ w.layout
   pub words : next.words ≡ after
   pub passes : next.passes ≡ slice_set w.passes (party - 1) p
   pub collector : next.collector ≡ w.collector
   pub awaited : next.awaited ≡ w.awaited
+  pub sealed : next.sealed ≡ w.sealed
   pub log : (let told = next.told in told.log) ≡ logged (let told = w.told in told.log) call
 
 -- one record set after another
-pub leaves_after : {R W E : Type 0} → (w middle next : State R W E) (party : ℕ) (words : List ℕ) (p q : PassRecord R W E) (call : Option Ended) → Leaves w party words middle p None → Leaves middle party middle.words next q call → Leaves w party words next q call
+pub leaves_after : {R W E M : Type 0} → (w middle next : State R W E M) (party : ℕ) (words : List ℕ) (p q : PassRecord R W E) (call : Option Ended) → Leaves w party words middle p None → Leaves middle party middle.words next q call → Leaves w party words next q call
 leaves_after w middle next party words p q call first then = record {
   layout = then.layout ∙ first.layout;
   words = then.words ∙ first.words;
   passes = then.passes ∙ ap (λ ps. slice_set ps (party - 1) q) first.passes ∙ set-set w.passes (party - 1) p q;
   collector = then.collector ∙ first.collector;
   awaited = then.awaited ∙ first.awaited;
+  sealed = then.sealed ∙ first.sealed;
   log = then.log ∙ ap (λ log. logged log call) first.log;
 }
 
 module _ {R W E M : Type 0} (kit : Kit R W E M) where
-  pub put_leaves : (w : State R W E) (party : ℕ) (p : PassRecord R W E) → Leaves w party w.words (put_pass w party p) p None
-  put_leaves w party p = record { layout = refl; words = refl; passes = refl; collector = refl; awaited = refl; log = refl }
+  pub put_leaves : (w : State R W E M) (party : ℕ) (p : PassRecord R W E) → Leaves w party w.words (put_pass w party p) p None
+  put_leaves w party p = record { layout = refl; words = refl; passes = refl; collector = refl; awaited = refl; sealed = refl; log = refl }
 
-  abbrev pub next_of_world : State R W E → ℕ → Request
+  abbrev pub next_of_world : State R W E M → ℕ → Request
   next_of_world w party = next_request w party (answered w party + 1)
 
-  begun_leaves : (w : State R W E) (party : ℕ) (p : PassRecord R W E) (o : Option (PassRecord R W E)) → Leaves w party w.words (access_begun kit w party p o) (or_else o (begun_or kit w.layout p (next_of_world w party))) None
-  begun_leaves w party p None = record { layout = refl; words = refl; passes = refl; collector = refl; awaited = refl; log = refl }
-  begun_leaves w party p (Some next) = record { layout = refl; words = refl; passes = refl; collector = refl; awaited = refl; log = refl }
+  begun_leaves : (w : State R W E M) (party : ℕ) (p : PassRecord R W E) (o : Option (PassRecord R W E)) → Leaves w party w.words (access_begun kit w party p o) (or_else o (begun_or kit w.layout p (next_of_world w party))) None
+  begun_leaves w party p None = record { layout = refl; words = refl; passes = refl; collector = refl; awaited = refl; sealed = refl; log = refl }
+  begun_leaves w party p (Some next) = record { layout = refl; words = refl; passes = refl; collector = refl; awaited = refl; sealed = refl; log = refl }
 
-  pub followed_leaves : (w : State R W E) (party : ℕ) (p : PassRecord R W E) (s : Sequel) → Leaves w party w.words (followed_at kit w party p s) (followed_by kit w.layout (next_of_world w party) p s) (called s)
+  pub followed_leaves : (w : State R W E M) (party : ℕ) (p : PassRecord R W E) (s : Sequel) → Leaves w party w.words (followed_at kit w party p s) (followed_by kit w.layout (next_of_world w party) p s) (called s)
   followed_leaves w party p sequel.Nothing = put_leaves w party p
   followed_leaves w party p (sequel.Starts request) = begun_leaves w party p (started kit w.layout p request)
-  followed_leaves w party p (sequel.Answered put answer ended) = record { layout = refl; words = refl; passes = refl; collector = refl; awaited = refl; log = refl }
-  followed_leaves w party p (sequel.Retries why) = record { layout = refl; words = refl; passes = refl; collector = refl; awaited = refl; log = refl }
+  followed_leaves w party p (sequel.Answered put answer ended) = record { layout = refl; words = refl; passes = refl; collector = refl; awaited = refl; sealed = refl; log = refl }
+  followed_leaves w party p (sequel.Retries why) = record { layout = refl; words = refl; passes = refl; collector = refl; awaited = refl; sealed = refl; log = refl }
 
   -- ---- what of the record stays where machines begin
 

@@ -1,7 +1,7 @@
 -- What is read of a pass off a log that grows.
 use Rattle.std.specs.Prelude.{◌≢◌, ◌-◌, ◌==◌, cond}
 use Rattle.std.proofs.lemmas.Bool.{ne_eqb, eq-eqb}
-use Rattle.std.proofs.lemmas.List.{append-nil, length-drop, get_or_append_left, length-append, length-map, get_or-map}
+use Rattle.std.proofs.lemmas.List.{append-nil, length-drop, length-reverse, get_or_append_left, length-append, length-map, get_or-map}
 use Rattle.std.proofs.Math.Seq.{drop-length}
 use Rattle.std.proofs.lemmas.List.Sorted.{All-permutation, IsPermutation-reverse}
 use Rattle.std.proofs.lemmas.List.Elements.{filter-append, All-map, All-append, All-cons, All-nil, All-head}
@@ -32,8 +32,8 @@ use Rattle.barriers.specs.declared.pass.PassRecord.{PassRecord}
 use Rattle.barriers.specs.Kits.{Kit}
 use Rattle.lawful_records.specs.LawfulRecords.{LawfulRecords, IsPassRecord, IsMachine, IsParty}
 use Rattle.lawful_records.specs.Turns.{with_change}
-use Rattle.gc_cycle.specs.Lawful.{Lawful, history_in, seen_of, known_in, records_in}
-use Rattle.gc_cycle.specs.Worlds.{State, logged, pass_at, nobody}
+use Rattle.gc_cycle.specs.Lawful.{Lawful, history_in, seen_of, known_in, collector_in, records_in}
+use Rattle.gc_cycle.specs.Worlds.{State, changes_now, logged, pass_at, nobody}
 
 -- ---- a past by its length
 
@@ -56,7 +56,7 @@ pub record Grown (log : List Ended) (call : Option Ended) (change : Option Call)
 
 -- ---- one pass's share
 
-seen_stays : (change : Option Call) (h : List Call) (n : ℕ) → n ≤ length h → seen_of (with_change change h) n ≡ seen_of h n
+pub seen_stays : (change : Option Call) (h : List Call) (n : ℕ) → n ≤ length h → seen_of (with_change change h) n ≡ seen_of h n
 seen_stays None h n within = refl
 seen_stays (Some c) h n within = seen_later c h n within
 
@@ -129,18 +129,18 @@ module _ {R W E M : Type 0} (kit : Kit R W E M) where
   pub number_is : (l : Sizes) (a : Announced) (c : Cycle) (s : Space) (n : Notices) (p : PassKnown R W E) → IsPassRecord kit l a c s n p → number_of p ≡ (let view = p.pass.view in view.pass)
   number_is l a c s n p is = number_by l c s n p p.pass.machine is.machine
 
-module _ {R W E M : Type 0} (kit : Kit R W E M) (w : State R W E) (lawful : Lawful kit w) where
+module _ {R W E M : Type 0} (kit : Kit R W E M) (w : State R W E M) (lawful : Lawful kit w) where
   abbrev h : List Call
   h = history_in w
 
   abbrev r : LawfulRecords kit w.layout w.words (records_in w)
   r = lawful.records
 
-  abbrev in_pass : PassRecord R W E → Party R W E
+  abbrev in_pass : PassRecord R W E → Party R W E M
   in_pass p = party.Pass (known_in w p)
 
-  abbrev tail : List (Party R W E)
-  tail = party.Collector (record { machine = w.collector; awaited = w.awaited; sealed = [] }) ∷ []
+  abbrev tail : List (Party R W E M)
+  tail = party.Collector (collector_in w) ∷ []
 
   place_below : (pass : ℕ) → IsPass w.layout pass → pass - 1 < length w.passes
   place_below pass is = omega (arith, is.0, is.1, lawful.passes)
@@ -148,8 +148,8 @@ module _ {R W E M : Type 0} (kit : Kit R W E M) (w : State R W E) (lawful : Lawf
   -- a pass's record is among those of the world
   pub record_at : (pass : ℕ) → IsPass w.layout pass → IsPassRecord kit w.layout (announced_by r.collector) (cycle_of r.collector) r.space r.notices (known_in w (pass_at w pass))
   record_at pass is =
-      let P : Party R W E → Type 0 = IsParty kit w.layout r.collector r.space r.notices in
-      let x : Party R W E = in_pass (pass_at w pass) in
+      let P : Party R W E M → Type 0 = IsParty kit w.layout r.collector r.space r.notices in
+      let x : Party R W E M = in_pass (pass_at w pass) in
       let below = place_below pass is in
       let all : P (get_or (map in_pass w.passes ++ tail) (pass - 1) x) = r.each (pass - 1) x (omega (arith, below, length-append (map in_pass w.passes) tail, length-map w.passes in_pass)) in
       let here : get_or (map in_pass w.passes ++ tail) (pass - 1) x ≡ x =
@@ -161,7 +161,7 @@ module _ {R W E M : Type 0} (kit : Kit R W E M) (w : State R W E) (lawful : Lawf
 
   pasts : All (IsPast h) (map seen_by_party (records_in w))
   pasts =
-      let P : Party R W E → Type 0 = λ x. IsPast h (seen_by_party x) in
+      let P : Party R W E M → Type 0 = λ x. IsPast h (seen_by_party x) in
       All-map (IsPast h) seen_by_party (records_in w)
       (All-append P (map in_pass w.passes) tail (All-map P in_pass w.passes (λ i d below. (length h - (get_or w.passes i d).seen, refl))) (All-cons P _ [] (length h, sym (drop-length h)) (All-nil P)))
 
@@ -185,8 +185,11 @@ module _ {R W E M : Type 0} (kit : Kit R W E M) (w : State R W E) (lawful : Lawf
   pub seen_few : (pass : ℕ) → IsPass w.layout pass → (let p = pass_at w pass in p.seen) ≤ length h
   seen_few pass is = seen_within h (let p = pass_at w pass in p.seen) (record_at pass is).told.count
 
+  pub changes_are : changes_now w ≡ length h
+  changes_are = sym (length-reverse (changes_of w.told.log))
+
   -- what is read of a pass stays where another one's call has ended
-  pub known_stays : (next : State R W E) (call : Option Ended) (change : Option Call) (mover pass : ℕ) → (let told = next.told in told.log) ≡ logged (let told = w.told in told.log) call
+  pub known_stays : (next : State R W E M) (call : Option Ended) (change : Option Call) (mover pass : ℕ) → (let told = next.told in told.log) ≡ logged (let told = w.told in told.log) call
       → Grown (let told = w.told in told.log) call change mover → IsPass w.layout pass → pass ≢ mover → known_in next (pass_at w pass) ≡ known_in w (pass_at w pass)
   known_stays next call change mover pass log grown is other =
       let p : PassRecord R W E = pass_at w pass in

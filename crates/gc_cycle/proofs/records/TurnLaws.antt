@@ -1,33 +1,35 @@
 -- Whoever takes a turn, words and records stay lawful.
 use Rattle.std.specs.Prelude.{◌≢◌, not, nat_lt, IsPermutation, slice_index, if◌then◌else◌}
-use Rattle.std.proofs.Common.{◌≡◌, ℕ, List, [], ◌∷◌, ◌++◌, length, map, Bool, true, false, refl, sym, ap, ◌∙◌, subst}
+use Rattle.std.proofs.Common.{◌≡◌, ℕ, List, [], ◌∷◌, ◌++◌, length, map, Bool, true, false, Some, refl, sym, ap, ◌∙◌, subst}
 use Rattle.std.proofs.lemmas.Bool.{ltb-false}
-use Rattle.std.proofs.lemmas.List.{length-reverse}
 use Rattle.std.proofs.lemmas.List.Sorted.{IsPermutation-to_front, IsPermutation-sym}
 use Rattle.call_steps.specs.declared.step.Step.{Step}
 use Rattle.call_steps.specs.declared.step.Step.TheVariants.{Load, Store, Exchange, Add, Sub, Ended}
 use Rattle.call_steps.specs.StepLaws.{found_by-step}
-use Rattle.call_steps.specs.Steps.{applied, found_by, place_of}
+use Rattle.call_steps.specs.Steps.{applied, found_by, place_of, IsInside}
 use Rattle.heap_words.specs.Layouts.{IsPass}
-use Rattle.heap_history.specs.Logs.{changes_of}
+use Rattle.space_reclaim.specs.declared.move_job.MoveJob.{MoveJob}
 use Rattle.heap_history.specs.declared.call.Call.{Call}
 use Rattle.barriers.specs.Kits.{Kit, Stepping, Laws}
+use Rattle.lawful_records.specs.Collectors.{seals_of}
 use Rattle.lawful_records.specs.Collectors as collectors
 use Rattle.lawful_records.specs.LawfulRecords.{LawfulRecords}
 use Rattle.lawful_records.specs.Records.{history_of}
-use Rattle.lawful_records.specs.Turns.{collector_turned}
+use Rattle.lawful_records.specs.Turns.{sealed_as, collector_turned}
+use Rattle.lawful_records.specs.declared.collector.CollectorMachine.{CollectorMachine}
 use Rattle.lawful_records.specs.declared.records.CollectorKnown.{CollectorKnown}
 use Rattle.lawful_records.specs.declared.records.Party.{Party}
 use Rattle.lawful_records.specs.declared.records.Party.TheVariants as parties
-use Rattle.lawful_records.proofs.RecordLaws.{record_keeps, lawful_regroups}
+use Rattle.lawful_records.proofs.RecordLaws.{record_keeps, lawful_inside, lawful_regroups, lawful_seals}
 use Rattle.lawful_records.proofs.parties.Pasts.{history_regroup}
 use Rattle.lawful_records.proofs.parties.Pasts as pasts
-use Rattle.gc_cycle.specs.Lawful.{Lawful, records_in, history_in}
-use Rattle.gc_cycle.specs.Worlds.{State, IsParty, asks_at, changes_now, is_ended, taken, collected, turn_of}
+use Rattle.gc_cycle.specs.Lawful.{Lawful, records_in, history_in, collector_in}
+use Rattle.gc_cycle.specs.Worlds.{State, IsParty, asks_at, changes_now, is_ended, taken, collector_asks, collected, turn_of}
 use Rattle.gc_cycle.proofs.records.Coming.{taken_comes}
-use Rattle.gc_cycle.proofs.records.Shares.{history_is}
+use Rattle.gc_cycle.proofs.records.Seals.{seals_after}
+use Rattle.gc_cycle.proofs.records.Shares.{changes_are, history_is}
 use Rattle.gc_cycle.proofs.records.Stepped.{in_pass}
-use Rattle.gc_cycle.proofs.records.Turns.{HasLawful, come_records}
+use Rattle.gc_cycle.proofs.records.Turns.{HasLawful, same_collector, come_records}
 
 pub goes_on : (t : Step) (f : Step) → f ≡ t → is_ended t ≡ false → f ≢ Ended
 goes_on Ended f is no_end = absurd cc
@@ -37,17 +39,17 @@ goes_on (Exchange at want put) f is no_end = λ over. cc
 goes_on (Add at by) f is no_end = λ over. cc
 goes_on (Sub at by) f is no_end = λ over. cc
 
-module _ {R W E M : Type 0} (kit : Kit R W E M) (by : Stepping R W E M) (laws : Laws kit by) (w : State R W E) (lawful : Lawful kit w) where
+module _ {R W E M : Type 0} (kit : Kit R W E M) (by : Stepping R W E M) (laws : Laws kit by) (w : State R W E M) (lawful : Lawful kit w) where
   -- ---- the collector
 
-  abbrev passes : List (Party R W E)
+  abbrev passes : List (Party R W E M)
   passes = map (in_pass w) w.passes
 
-  abbrev q : CollectorKnown
-  q = record { machine = w.collector; awaited = w.awaited; sealed = [] }
+  abbrev q : CollectorKnown M
+  q = collector_in w
 
   abbrev asks : Step
-  asks = collectors.asks_of w.collector
+  asks = collector_asks kit by w
 
   pub collector_first : IsPermutation (records_in w) (parties.Collector q ∷ passes)
   collector_first = IsPermutation-to_front passes (parties.Collector q)
@@ -56,19 +58,32 @@ module _ {R W E M : Type 0} (kit : Kit R W E M) (by : Stepping R W E M) (laws : 
   history = let records = lawful.records in let space = records.space in
       pasts.history_is kit w.layout space.history (parties.Collector q ∷ passes) (history_regroup kit w.layout space.history (records_in w) (parties.Collector q ∷ passes) collector_first records.history) ∙ history_is kit w lawful
 
+  -- its step is on a word that is there
+  pub can_collect : IsInside (length w.words) asks
+  can_collect =
+      let records = lawful.records in
+      let before = lawful_regroups kit w.layout w.words (records_in w) (parties.Collector q ∷ passes) collector_first records in
+      subst (λ (len : ℕ). IsInside len asks) (sym records.width) (lawful_inside kit by laws w.layout w.words passes (parties.Collector q) before)
+
   pub collected_records : asks ≢ Ended → HasLawful kit by (collected kit by w)
   collected_records on =
       let before = lawful_regroups kit w.layout w.words (records_in w) (parties.Collector q ∷ passes) collector_first lawful.records in
       let kept = record_keeps kit by laws w.layout w.words passes (parties.Collector q) before on in
       let found : slice_index w.words (place_of asks) ≡ found_by asks w.words = sym (found_by-step asks w.words on) in
-      let count : length (history_in w) ≡ changes_now w = length-reverse (changes_of w.told.log) in
-      let turned : CollectorKnown = record { machine = collectors.fed_of w.collector (found_by asks w.words); awaited = collectors.awaits_behind w.collector (collectors.fed_of w.collector (found_by asks w.words)) (changes_now w) w.awaited; sealed = [] } in
+      let all : changes_now w ≡ length (history_in w) = changes_are kit w lawful in
+      let next : CollectorMachine M = collectors.fed_of kit by.move_fed w.collector (found_by asks w.words) in
+      let turned : CollectorKnown M = collector_in (collected kit by w) in
+      let alone : (job : MoveJob) → seals_of w.collector asks (found_by asks w.words) ≡ Some job → q.sealed ≡ [] =
+      λ job e. lawful_seals kit by laws w.layout w.words passes q before job (ap (λ (n : ℕ). seals_of w.collector asks n) found ∙ e) in
       let is : collector_turned kit by (history_of (parties.Collector q ∷ passes)) q (slice_index w.words (place_of asks)) ≡ turned =
       ap (λ (h : List Call). collector_turned kit by h q (slice_index w.words (place_of asks))) history ∙ ap (λ (n : ℕ). collector_turned kit by (history_in w) q n) found
-      ∙ ap (λ (k : ℕ). record { machine = collectors.fed_of w.collector (found_by asks w.words); awaited = collectors.awaits_behind w.collector (collectors.fed_of w.collector (found_by asks w.words)) k w.awaited; sealed = [] }) count in
+      ∙ same_collector next next (collectors.awaits_behind w.collector next (length (history_in w)) w.awaited) (collectors.awaits_behind w.collector next (changes_now w) w.awaited)
+      (q.sealed ++ sealed_as (seals_of w.collector asks (found_by asks w.words)) (history_in w)) turned.sealed
+      refl (ap (λ (n : ℕ). collectors.awaits_behind w.collector next n w.awaited) (sym all))
+      (seals_after w.sealed (seals_of w.collector asks (found_by asks w.words)) (history_in w) (changes_now w) all alone) in
       lawful_regroups kit w.layout (applied asks w.words) (parties.Collector turned ∷ passes) (passes ++ parties.Collector turned ∷ [])
       (IsPermutation-sym (passes ++ parties.Collector turned ∷ []) (parties.Collector turned ∷ passes) (IsPermutation-to_front passes (parties.Collector turned)))
-      (subst (λ (x : CollectorKnown). LawfulRecords kit w.layout (applied asks w.words) (parties.Collector x ∷ passes)) is kept)
+      (subst (λ (x : CollectorKnown M). LawfulRecords kit w.layout (applied asks w.words) (parties.Collector x ∷ passes)) is kept)
 
   -- ---- a thread
 

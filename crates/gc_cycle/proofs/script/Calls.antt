@@ -1,6 +1,7 @@
 -- What the step of a call says of the command that asked for it.
 use Rattle.std.specs.Prelude.{reverse, is_some}
-use Rattle.std.proofs.Common.{◌≡◌, ℕ, true, false, List, [], ◌∷◌, ◌++◌, length, Some, None, refl, sym, ap, ◌∙◌, subst, arith}
+use Rattle.std.specs.Option.{option_map}
+use Rattle.std.proofs.Common.{◌≡◌, ℕ, true, false, List, [], ◌∷◌, ◌++◌, length, Option, Some, None, refl, sym, ap, ◌∙◌, subst, arith}
 use Rattle.std.proofs.lemmas.List.{length-reverse}
 use Rattle.heap_words.specs.Layouts.{Sizes}
 use Rattle.heap_words.specs.declared.operand.Operand.{Operand}
@@ -14,7 +15,6 @@ use Rattle.heap_history.specs.Logs.{changes_of}
 use Rattle.heap_script.specs.declared.script.Command.TheVariants as commands
 use Rattle.handshakes.specs.Polling.{held_in}
 use Rattle.barriers.specs.declared.front.Front.{Front}
-use Rattle.barriers.specs.declared.front.Front.TheVariants.{Stays, Now, SealedOrNow}
 use Rattle.barriers.specs.declared.ends.ReadEnd.{ReadEnd}
 use Rattle.barriers.specs.declared.ends.ReadEnd.TheVariants as read_end
 use Rattle.barriers.specs.declared.ends.WriteEnd.{WriteEnd}
@@ -36,6 +36,7 @@ use Rattle.lawful_records.specs.Turns.{change_call, seen_by, with_change}
 use Rattle.lawful_records.proofs.telling.Replies.{EndsSo}
 use Rattle.gc_cycle.specs.Sequels.{named, read_call, write_call, exchange_call}
 use Rattle.gc_cycle.specs.Worlds.{face_of, seen_with}
+use Rattle.gc_cycle.proofs.records.Seals.{looks_count}
 use Rattle.gc_cycle.specs.Lawful.{IsLink, access_of}
 use Rattle.gc_cycle.proofs.script.Ends.{EndSays, IsLooked, IsChange, IsRefused}
 use Rattle.gc_cycle.proofs.script.Said.{object_in, field_in, look_said, change_said, no_field_of}
@@ -68,12 +69,12 @@ exchange_silent (Over z (Exchanges expected other) end) suits wanted word task n
 exchange_silent k suits wanted word task none = refl
 
 -- how many changes were seen after a step with this front
-pub seen_is : (front : Front) (log : List Ended) (hist seen : List Call) (count : ℕ) → hist ≡ reverse (changes_of log) → count ≡ length seen → length (seen_by None front None hist seen) ≡ seen_with front (length (changes_of log)) count
-seen_is Stays log hist seen count is same = sym same
-seen_is Now log hist seen count is same = ap length is ∙ length-reverse (changes_of log)
-seen_is SealedOrNow log hist seen count is same = ap length is ∙ length-reverse (changes_of log)
+pub seen_is : (front : Front) (seal : Option (List Call)) (log : List Ended) (hist seen : List Call) (count : ℕ) → hist ≡ reverse (changes_of log) → count ≡ length seen
+    → length (seen_by None front seal hist seen) ≡ seen_with front (option_map (λ (past : List Call). length past) seal) (length (changes_of log)) count
+seen_is front seal log hist seen count is same =
+    sym (looks_count front seal hist seen count (length (changes_of log)) (sym (ap (λ (cs : List Call). length cs) is ∙ length-reverse (changes_of log))) same)
 
-module _ {R W E : Type 0} (l : Sizes) (log : List Ended) (hist : List Call) (hist_is : hist ≡ reverse (changes_of log)) (p : PassRecord R W E) (pass : ℕ) (es : List Ended) where
+module _ {R W E : Type 0} (l : Sizes) (log : List Ended) (hist : List Call) (hist_is : hist ≡ reverse (changes_of log)) (p : PassRecord R W E) (pass : ℕ) (es : List Ended) (seal : Option (List Call)) where
   -- what the call's object has not
   abbrev pub Refuses : List Call → Known → Type 0
   Refuses g k = (z : Spot) (t : Task) (len : ℕ) → k ≡ Over z t (Refused (refusal.NoField len)) → IsNoField g z len
@@ -105,7 +106,7 @@ module _ {R W E : Type 0} (l : Sizes) (log : List Ended) (hist : List Call) (his
   -- ---- calls that may change the heap
 
   abbrev Seen : Known → Front → List Call → ℕ
-  Seen k front seen = length (seen_by (change_call k pass) front None hist seen)
+  Seen k front seen = length (seen_by (change_call k pass) front seal hist seen)
 
   -- a change was the next one
   made_said : (g : List Call) (z : Spot) (t : Task) (end : Ending) (call : Call) (e : Ended) → g ≡ call_of pass z t ∷ hist → Follows (reverse g) pass 0 (es ++ e ∷ []) → e.call ≡ call → is_change e.reply ≡ true → e.front ≡ length (call_of pass z t ∷ hist) → IsChange log call e.reply
@@ -130,7 +131,7 @@ module _ {R W E : Type 0} (l : Sizes) (log : List Ended) (hist : List Call) (his
 
   module _ (dst obj field : ℕ) (expected value : Operand) (link : IsLink (held_in p.registers obj)) where
     pub exchange_over : (k : Known) (g : List Call) (front : Front) (seen : List Call) → EndsSo k → access_of pass k ≡ exchange_call (face_of p) obj field expected value → g ≡ with_change (change_call k pass) hist
-        → Follows (reverse g) pass 0 (es ++ ended_call (Some k) pass (Seen k front seen)) → Refuses g k → length (seen_by None front None hist seen) ≡ p.seen
+        → Follows (reverse g) pass 0 (es ++ ended_call (Some k) pass (Seen k front seen)) → Refuses g k → length (seen_by None front seal hist seen) ≡ p.seen
         → (said : ExchangeEnd) → said_by exchange_said (ending_of k) ≡ Some said → EndSays l log p (commands.Cas dst obj field expected value) (ends.Exchange said) (is_some (change_call k pass))
     exchange_over (Over z t Done) g front seen suits access is told refuses count said some =
         let said_is : exchange_end.Done ≡ said = cc in
@@ -139,7 +140,7 @@ module _ {R W E : Type 0} (l : Sizes) (log : List Ended) (hist : List Call) (his
         (link, made_said g z t Done (exchange_call (face_of p) obj field expected value) e is told access refl refl, refl)
     exchange_over (Over z t (Differs word)) g front seen suits access is told refuses count said some =
         let said_is : exchange_end.Differs word ≡ said = cc in
-        let front_is = length (seen_by None front None hist seen) in
+        let front_is = length (seen_by None front seal hist seen) in
         let looked = look_said log g pass es (record { call = call_of pass z t; reply = replies.Differs (value_of word); front = front_is }) (is ∙ hist_is) told refl in
         subst (λ (x : ExchangeEnd). EndSays l log p (commands.Cas dst obj field expected value) (ends.Exchange x) false) said_is
         (link, subst (λ (n : ℕ). IsLooked log n (exchange_call (face_of p) obj field expected value) (replies.Differs (value_of word))) count (subst (λ (x : Call). IsLooked log front_is x (replies.Differs (value_of word))) access looked), refl)

@@ -79,16 +79,16 @@ none_made (Over z t end) pass none = absurd cc
 none_made k pass none = refl
 
 module _ {R W E M : Type 0} (kit : Kit R W E M) (by : Stepping R W E M) (laws : Laws kit by) (l : Sizes) (a : Announced) (c : Cycle) (t : Space) (o : Notices) (log : List Ended) (hist : List Call) (hist_is : hist ≡ reverse (changes_of log))
-    (p : PassRecord R W E) (seen mine : List Call) (es : List Ended) (count : p.seen ≡ length seen) (n : ℕ) where
+    (p : PassRecord R W E) (seen mine : List Call) (es : List Ended) (count : p.seen ≡ length seen) (n : ℕ) (seal : Option (List Call)) where
   -- the pass in this machine, and after its step
   abbrev pub known : PassMachine R W E → PassKnown R W E
   known m = record { pass = record p { machine = m }; seen = seen; mine = mine; ended = es }
 
   abbrev pub after : PassMachine R W E → PassKnown R W E
-  after m = pass_turned kit by None hist (known m) n
+  after m = pass_turned kit by seal hist (known m) n
 
   abbrev pub next : PassMachine R W E → PassRecord R W E
-  next m = record p { machine = pass_fed kit by m n; seen = seen_with (front_by kit by m n) (length (changes_of log)) p.seen }
+  next m = record p { machine = pass_fed kit by m n; seen = seen_with (front_by kit by m n) (option_map (λ (past : List Call). length past) seal) (length (changes_of log)) p.seen }
 
   abbrev pass : ℕ
   pass = let view = p.view in view.pass
@@ -142,13 +142,13 @@ module _ {R W E M : Type 0} (kit : Kit R W E M) (by : Stepping R W E M) (laws : 
       let call = own.machine.0 in
       let tells = laws.reading.tells (by.read_fed x n) in
       let q = next (machine.Read x) in
-      let front = seen_is (by.read_front x n) log hist seen p.seen hist_is count in
+      let front = seen_is (by.read_front x n) seal log hist seen p.seen hist_is count in
       record {
         goes = λ none. ((at.0, access, read_silent k kept.ends own.machine.2 (sym tells ∙ unmapped _ _ none)), refl);
         ends = λ end over.
             let e = mapped _ _ end over in
             subst (λ (y : MachineEnd). EndSays l log q (commands.Get dst obj field) y false) (sym e.2)
-            (read_over l log hist hist_is q pass es dst obj field at.0 k t.history kept.ends access is.history
+            (read_over l log hist hist_is q pass es seal dst obj field at.0 k t.history kept.ends access is.history
             (subst (λ (m : ℕ). Follows (reverse t.history) pass 0 (es ++ ended_call (Some k) pass m)) front told.ended) call.refused e.0 (sym tells ∙ e.1));
       }
 
@@ -170,7 +170,7 @@ module _ {R W E M : Type 0} (kit : Kit R W E M) (by : Stepping R W E M) (laws : 
         ends = λ end over.
             let e = mapped _ _ end over in
             subst (λ (y : MachineEnd). EndSays l log q (commands.Put obj field what) y (decides (machine.Write x))) (sym e.2)
-            (write_over l log hist hist_is q pass es obj field what at.0 k t.history (by.write_front x n) seen kept.ends access is.history told.ended call.refused e.0 (sym tells ∙ e.1));
+            (write_over l log hist hist_is q pass es seal obj field what at.0 k t.history (by.write_front x n) seen kept.ends access is.history told.ended call.refused e.0 (sym tells ∙ e.1));
       }
 
   pub exchange_says : (x : E) (dst obj field : ℕ) (expected value : Operand) → IsAtCommand kit l (record p { machine = machine.Exchange x }) (Some (commands.Cas dst obj field expected value)) → CallKept (kit.exchanges x) (kit.exchanges (by.exchange_fed x n))
@@ -184,7 +184,7 @@ module _ {R W E M : Type 0} (kit : Kit R W E M) (by : Stepping R W E M) (laws : 
       let tells = laws.exchanging.tells (by.exchange_fed x n) in
       let q = next (machine.Exchange x) in
       let task = exchanging_is (task_of k) own.machine.2 in
-      let front = seen_is (by.exchange_front x n) log hist seen p.seen hist_is count in
+      let front = seen_is (by.exchange_front x n) seal log hist seen p.seen hist_is count in
       record {
         goes = λ none.
             let silent = exchange_silent k kept.ends task.0 task.1 task.2 (sym tells ∙ unmapped _ _ none) in
@@ -192,5 +192,5 @@ module _ {R W E M : Type 0} (kit : Kit R W E M) (by : Stepping R W E M) (laws : 
         ends = λ end over.
             let e = mapped _ _ end over in
             subst (λ (y : MachineEnd). EndSays l log q (commands.Cas dst obj field expected value) y (decides (machine.Exchange x))) (sym e.2)
-            (exchange_over l log hist hist_is q pass es dst obj field expected value at.0 k t.history (by.exchange_front x n) seen kept.ends access is.history told.ended call.refused front e.0 (sym tells ∙ e.1));
+            (exchange_over l log hist hist_is q pass es seal dst obj field expected value at.0 k t.history (by.exchange_front x n) seen kept.ends access is.history told.ended call.refused front e.0 (sym tells ∙ e.1));
       }

@@ -1,7 +1,7 @@
 -- What the step of the making of an object says of the command that asked for it.
 use Rattle.std.specs.Prelude.{reverse, is_some}
 use Rattle.std.specs.Option.{option_map}
-use Rattle.std.proofs.Common.{◌≡◌, ℕ, ◌+◌, ◌<◌, ◌≤◌, true, false, List, ◌∷◌, length, Some, None, refl, sym, ap, ◌∙◌, subst, arith}
+use Rattle.std.proofs.Common.{◌≡◌, ℕ, ◌+◌, ◌<◌, ◌≤◌, true, false, List, ◌∷◌, length, Option, Some, None, refl, sym, ap, ◌∙◌, subst, arith}
 use Rattle.std.proofs.lemmas.List.{length-reverse}
 use Rattle.heap_words.specs.Layouts.{Sizes, IsLayout, IsPass, first_word}
 use Rattle.object_headers.specs.declared.header.Header.{Header}
@@ -65,15 +65,15 @@ module _ (l : Sizes) (fits : IsLayout l) (pass : ℕ) (is : IsPass l pass) (made
       ap (λ (h : Header). calls.NewObject pass placement.birth h.len) header
 
 module _ {R W E M : Type 0} (kit : Kit R W E M) (by : Stepping R W E M) (laws : Laws kit by) (l : Sizes) (a : Announced) (c : Cycle) (t : Space) (o : Notices) (log : List Ended) (hist : List Call) (hist_is : hist ≡ reverse (changes_of log))
-    (p : PassRecord R W E) (seen mine : List Call) (es : List Ended) (count : p.seen ≡ length seen) (n : ℕ) (fits : IsLayout l) (in_layout : IsPass l (let view = p.view in view.pass)) (dst len : ℕ) (short : len ≤ 30) (few : p.made < 262144) where
+    (p : PassRecord R W E) (seen mine : List Call) (es : List Ended) (count : p.seen ≡ length seen) (n : ℕ) (seal : Option (List Call)) (fits : IsLayout l) (in_layout : IsPass l (let view = p.view in view.pass)) (dst len : ℕ) (short : len ≤ 30) (few : p.made < 262144) where
   abbrev pass : ℕ
   pass = let view = p.view in view.pass
 
   abbrev Says : NewMachine → Type 0
-  Says y = StepSays kit by laws l a c t o log hist hist_is p seen mine es count n (machine.New y) (Some (commands.New dst len))
+  Says y = StepSays kit by laws l a c t o log hist hist_is p seen mine es count n seal (machine.New y) (Some (commands.New dst len))
 
   abbrev After : NewMachine → Type 0
-  After y = IsAfterStep kit by laws l a c t o log hist hist_is p seen mine es count n (machine.New y)
+  After y = IsAfterStep kit by laws l a c t o log hist hist_is p seen mine es count n seal (machine.New y)
 
   -- a machine that goes on
   goes_on : (y next : NewMachine) → makes.fed_of y n ≡ next → makes.end_of next ≡ None → IsMakingOf l pass p.room p.made len next → ((let room = p.room in room.used) + len + 1 ≤ 64) → is_some (change_by kit by (machine.New y) pass n) ≡ false → Says y
@@ -104,7 +104,7 @@ module _ {R W E M : Type 0} (kit : Kit R W E M) (by : Stepping R W E M) (laws : 
       let made : IsChange log call replies.Made = change_said log t.history call pass es e here told.ended refl (omega (arith, many)) in
       let len_is = header_len l fits pass in_layout p.made len few short placement (let room = p.room in room.used) at.0 in
       let room_is : placement.room ≡ record { region = Some (first_own l pass); used = (let room = p.room in room.used) + len + 1; last = Some (first_own l pass) } = ap (λ (q : Placement). q.room) at.0 in
-      let q = next kit by laws l a c t o log hist hist_is p seen mine es count n (machine.New (make.Header placement)) in
+      let q = next kit by laws l a c t o log hist hist_is p seen mine es count n seal (machine.New (make.Header placement)) in
       let said : EndSays l log q (commands.New dst len) (ends.New (new_end.Made placement.birth placement.at placement.room)) true = (
         ap (λ (x : Placement). x.birth) at.0,
         record { region = ap (λ (x : Room). x.region) room_is; last = ap (λ (x : Room). x.last) room_is; used = ap (λ (x : Room). x.used) room_is },

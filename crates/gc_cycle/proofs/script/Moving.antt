@@ -1,5 +1,5 @@
 -- What a turn of a thread changes of what was seen and told.
-use Rattle.std.proofs.Common.{◌≡◌, ◌≢◌, ℕ, ◌+◌, ◌-◌, Bool, true, false, cond, List, length, get_or, Option, Some, None, sym, ap, ◌∙◌, subst, arith}
+use Rattle.std.proofs.Common.{◌≡◌, ◌≢◌, ℕ, ◌+◌, ◌-◌, ◌≤◌, Bool, true, false, cond, List, length, get_or, Option, Some, None, sym, ap, ◌∙◌, subst, arith}
 use Rattle.std.proofs.lemmas.Option.{same_Some}
 use Rattle.heap_words.specs.Layouts.{IsPass}
 use Rattle.heap_history.specs.declared.call.Ended.{Ended}
@@ -28,7 +28,11 @@ seen_all : (made : Bool) (changes before seen : ℕ) → seen ≡ cond made (cha
 seen_all true changes before seen is change = is
 seen_all false changes before seen is change = absurd cc
 
-module _ {R W E M : Type 0} (kit : Kit R W E M) (by : Stepping R W E M) (w : State R W E) (party : ℕ) where
+seen_later : (made : Bool) (changes before seen : ℕ) → seen ≡ cond made (changes + 1) before → before ≤ changes → before ≤ seen
+seen_later true changes before seen is within = omega (arith, is, within)
+seen_later false changes before seen is within = omega (arith, is)
+
+module _ {R W E M : Type 0} (kit : Kit R W E M) (by : Stepping R W E M) (w : State R W E M) (party : ℕ) where
   -- the record of one pass is this, and at most one more call ended, which it has seen
   pub record IsMove (words : List ℕ) (passes : List (PassRecord R W E)) (told : Telling) (x : PassRecord R W E) (call : Option Ended) : Type 0 where
     pub there : (q : ℕ) → IsPass w.layout q → q ≢ party → get_or passes (q - 1) nobody ≡ pass_at w q
@@ -43,9 +47,9 @@ module _ {R W E M : Type 0} (kit : Kit R W E M) (by : Stepping R W E M) (w : Sta
   told_by made seen None own is e some = absurd cc
   told_by made seen (Some d) own is e some = subst (λ (x : Ended). (pass_of x.call ≡ party) × (x.front ≡ seen)) (same_Some _ _ some) (own, is.0)
 
-  pub moves_next : (let p = fed_at kit by w party in p.seen) ≡ looked_at kit by w party → (words : List ℕ) (passes : List (PassRecord R W E)) (told : Telling) (x : PassRecord R W E) (call : Option Ended)
+  pub moves_next : (let p = fed_at kit by w party in p.seen) ≡ looked_at kit by w party → (let p = pass_at w party in p.seen) ≤ (let p = fed_at kit by w party in p.seen) → (let p = fed_at kit by w party in p.seen) ≤ changes_now w → (words : List ℕ) (passes : List (PassRecord R W E)) (told : Telling) (x : PassRecord R W E) (call : Option Ended)
       → IsMove words passes told x call → Moves kit by w party (with_told kit w words passes told)
-  moves_next looked words passes told x call is =
+  moves_next looked later within words passes told x call is =
       let made = decides_at kit by w party in
       let before = (let p = fed_at kit by w party in p.seen) in
       let seen : (let p = get_or passes (party - 1) nobody in p.seen) ≡ x.seen = ap (λ (y : PassRecord R W E). y.seen) is.here in
@@ -57,6 +61,7 @@ module _ {R W E M : Type 0} (kit : Kit R W E M) (by : Stepping R W E M) (w : Sta
         changes = more;
         looked = λ none. seen ∙ seen_on made (changes_now w) before x.seen is.seen_is none ∙ looked;
         made = λ change. seen ∙ seen_all made (changes_now w) before x.seen is.seen_is change ∙ sym more;
+        later = let on = seen_later made (changes_now w) before x.seen is.seen_is within in omega (arith, later, on, seen);
         told = λ e some. let t = told_by made x.seen call is.own is.call_is e some in (t.0, t.1 ∙ sym seen);
         counts = is.counts;
       }

@@ -8,7 +8,7 @@ use Rattle.heap_words.specs.Layouts.{Sizes}
 use Rattle.heap_script.specs.declared.script.Command.{Command}
 use Rattle.heap_script.specs.declared.script.Command.TheVariants as commands
 use Rattle.call_steps.specs.declared.step.Step.TheVariants.{Ended}
-use Rattle.call_steps.specs.Steps.{found_by}
+use Rattle.call_steps.specs.Steps.{found_by, place_of}
 use Rattle.handshakes.specs.Polls as polls
 use Rattle.handshakes.specs.Retires as retires
 use Rattle.handshakes.specs.declared.poll.PollMachine.{PollMachine}
@@ -30,8 +30,13 @@ use Rattle.lawful_records.specs.declared.records.PassKnown.{PassKnown}
 use Rattle.lawful_records.specs.LawfulRecords.{IsMachine}
 use Rattle.lawful_records.specs.Turns.{change_by, front_by, pass_asks, pass_fed}
 use Rattle.lawful_records.specs.declared.collector.Awaited.{Awaited}
+use Rattle.lawful_records.specs.Collectors.{seals_of}
 use Rattle.lawful_records.specs.declared.collector.CollectorMachine.{CollectorMachine}
-use Rattle.gc_cycle.specs.Worlds.{State, pass_at, command_at, changes_now, fed_at, nobody, seen_with, is_collector, collected}
+use Rattle.space_reclaim.specs.declared.move_job.MoveJob.{MoveJob}
+use Rattle.barriers.specs.declared.ends.MoveEnd.{MoveEnd}
+use Rattle.gc_cycle.specs.declared.world.SealedAt.{SealedAt}
+use Rattle.gc_cycle.proofs.records.Seals.{AreFew, few_after}
+use Rattle.gc_cycle.specs.Worlds.{State, pass_at, command_at, changes_now, fed_at, nobody, seal_of, seen_with, is_collector, collector_asks, collector_found, collected}
 use Rattle.gc_cycle.specs.Lawful.{IsAtCommand}
 use Rattle.gc_cycle.specs.Runs.{decides_at, looked_at, counted, sequel_at}
 use Rattle.gc_cycle.proofs.script.Turned.{IsTurned}
@@ -39,32 +44,32 @@ use Rattle.gc_cycle.proofs.script.Worlds.{IsScripted}
 
 module _ {R W E M : Type 0} (kit : Kit R W E M) (by : Stepping R W E M) where
   -- a machine whose step, if it has one, is nothing to its thread
-  pub record IsStill (w : State R W E) (party : ℕ) : Type 0 where
+  pub record IsStill (w : State R W E M) (party : ℕ) : Type 0 where
     pub decides : decides_at kit by w party ≡ false
     pub looked : looked_at kit by w party ≡ (let p = pass_at w party in p.seen)
     pub ends : ended_of kit (let p = fed_at kit by w party in p.machine) ≡ None
 
-  still_by : (w : State R W E) (party : ℕ) (k : PassMachine R W E) → (let p = pass_at w party in p.machine) ≡ k
-      → (let n = found_by (pass_asks kit by k) w.words in (change_by kit by k (let p = pass_at w party in let view = p.view in view.pass) n ≡ None) × (seen_with (front_by kit by k n) (changes_now w) (let p = pass_at w party in p.seen) ≡ (let p = pass_at w party in p.seen)) × (ended_of kit (pass_fed kit by k n) ≡ None))
+  still_by : (w : State R W E M) (party : ℕ) (k : PassMachine R W E) → (let p = pass_at w party in p.machine) ≡ k
+      → (let n = found_by (pass_asks kit by k) w.words in (change_by kit by k (let p = pass_at w party in let view = p.view in view.pass) n ≡ None) × (seen_with (front_by kit by k n) (seal_of w.sealed (place_of (pass_asks kit by k))) (changes_now w) (let p = pass_at w party in p.seen) ≡ (let p = pass_at w party in p.seen)) × (ended_of kit (pass_fed kit by k n) ≡ None))
       → IsStill w party
   still_by w party k is facts =
       let pass = (let p = pass_at w party in let view = p.view in view.pass) in
       let seen = (let p = pass_at w party in p.seen) in
       let D : PassMachine R W E → Type 0 = λ m. is_some (change_by kit by m pass (found_by (pass_asks kit by m) w.words)) ≡ false in
-      let L : PassMachine R W E → Type 0 = λ m. seen_with (front_by kit by m (found_by (pass_asks kit by m) w.words)) (changes_now w) seen ≡ seen in
+      let L : PassMachine R W E → Type 0 = λ m. seen_with (front_by kit by m (found_by (pass_asks kit by m) w.words)) (seal_of w.sealed (place_of (pass_asks kit by m))) (changes_now w) seen ≡ seen in
       let N : PassMachine R W E → Type 0 = λ m. ended_of kit (pass_fed kit by m (found_by (pass_asks kit by m) w.words)) ≡ None in
       record { decides = subst D (sym is) (ap is_some facts.0); looked = subst L (sym is) facts.1; ends = subst N (sym is) facts.2 }
 
-  pub still_idle : (w : State R W E) (party : ℕ) → (let p = pass_at w party in p.machine) ≡ machine.Idle → IsStill w party
+  pub still_idle : (w : State R W E M) (party : ℕ) → (let p = pass_at w party in p.machine) ≡ machine.Idle → IsStill w party
   still_idle w party is = still_by w party machine.Idle is (refl, refl, refl)
 
-  pub still_retired : (w : State R W E) (party : ℕ) → (let p = pass_at w party in p.machine) ≡ machine.Retired → IsStill w party
+  pub still_retired : (w : State R W E M) (party : ℕ) → (let p = pass_at w party in p.machine) ≡ machine.Retired → IsStill w party
   still_retired w party is = still_by w party machine.Retired is (refl, refl, refl)
 
   -- whatever becomes of the words and the collector
-  pub turned_still : (w : State R W E) → IsScripted kit w → (party : ℕ) → IsStill w party → (words : List ℕ) (collector : CollectorMachine) (awaited : Awaited)
-      → IsTurned kit by w party (record w { words = words; collector = collector; awaited = awaited })
-  turned_still w lw party still words collector awaited = record {
+  pub turned_still : (w : State R W E M) → IsScripted kit w → (party : ℕ) → IsStill w party → (words : List ℕ) (collector : CollectorMachine M) (awaited : Awaited) (sealed : Option SealedAt) (moved : Option (MoveJob × MoveEnd)) → AreFew sealed (changes_now w)
+      → IsTurned kit by w party (record w { words = words; collector = collector; awaited = awaited; sealed = sealed; moved = moved })
+  turned_still w lw party still words collector awaited sealed moved few = record {
     scripted = record {
       script = lw.script;
       passes = lw.passes;
@@ -72,6 +77,7 @@ module _ {R W E M : Type 0} (kit : Kit R W E M) (by : Stepping R W E M) where
       log = lw.log;
       owners = lw.owners;
       threads = lw.threads;
+      sealed = few;
     };
     moves = record {
       others = λ q other apart. refl;
@@ -80,16 +86,18 @@ module _ {R W E M : Type 0} (kit : Kit R W E M) (by : Stepping R W E M) where
       changes = subst (λ (b : Bool). changes_now w ≡ changes_now w + cond b 1 0) (sym still.decides) (omega arith);
       looked = λ none. sym still.looked;
       made = λ change. absurd (cc (change, still.decides));
+      later = omega arith;
       told = λ e some. absurd cc;
       counts = ap (λ o. counted kit by w party (sequel_at kit by w party o (command_at w party))) (sym still.ends);
     };
   }
 
   -- the collector is no thread
-  pub collector_turned : (w : State R W E) → IsScripted kit w → (party : ℕ) → is_collector kit by w party ≡ true → IsTurned kit by w party (collected kit by w)
+  pub collector_turned : (w : State R W E M) → IsScripted kit w → (party : ℕ) → is_collector kit by w party ≡ true → IsTurned kit by w party (collected kit by w)
   collector_turned w lw party is =
       let past : pass_at w party ≡ nobody = get_or_past w.passes (party - 1) nobody (omega (arith, lw.passes, ltb-true w.layout.passes party is)) in
-      turned_still w lw party (still_idle w party (ap (λ (x : PassRecord R W E). x.machine) past)) _ _ _
+      turned_still w lw party (still_idle w party (ap (λ (x : PassRecord R W E). x.machine) past)) _ _ _ _ _
+      (few_after w.sealed (seals_of w.collector (collector_asks kit by w) (collector_found kit by w)) (changes_now w) lw.sealed)
 
 -- ---- a thread that takes no step has retired
 

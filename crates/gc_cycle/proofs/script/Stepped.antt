@@ -1,8 +1,8 @@
 -- The step of a thread's machine in a lawful world, by its records.
 use Rattle.std.specs.Prelude.{is_some, slice_index}
 use Rattle.std.specs.List.{All}
-use Rattle.std.specs.Option.{ForSome}
-use Rattle.std.proofs.Common.{◌≡◌, ◌≢◌, ℕ, ◌<◌, ◌≤◌, Bool, true, false, length, Option, Some, None, refl, sym, ap, ◌∙◌, subst, arith}
+use Rattle.std.specs.Option.{ForSome, option_map}
+use Rattle.std.proofs.Common.{◌≡◌, ◌≢◌, ℕ, ◌<◌, ◌≤◌, Bool, true, false, List, length, Option, Some, None, refl, sym, ap, ◌∙◌, subst, arith}
 use Rattle.heap_words.specs.Layouts.{Sizes, IsPass, IsRegion, region_at}
 use Rattle.heap_words.specs.FieldWords.{IsFieldWord}
 use Rattle.heap_words.specs.declared.field_word.FieldWord.{FieldWord}
@@ -34,35 +34,38 @@ use Rattle.barriers.specs.Cycles.{Cycle}
 use Rattle.barriers.specs.Spaces.{Space}
 use Rattle.barriers.specs.Kits.{Kit, Stepping, Laws, ending_of, read_said, exchange_said}
 use Rattle.barriers.specs.Knowns.{Ending, Got, Done, Differs, Refused}
+use Rattle.barriers.specs.Knowns as knowns
 use Rattle.barriers.specs.declared.ends.ReadEnd.{ReadEnd}
 use Rattle.barriers.specs.declared.ends.ReadEnd.TheVariants as read_end
 use Rattle.barriers.specs.declared.ends.ExchangeEnd.{ExchangeEnd}
 use Rattle.barriers.specs.declared.ends.ExchangeEnd.TheVariants as exchange_end
 use Rattle.barriers.specs.declared.ends.TryRefusal.TheVariants as refusal
-use Rattle.barriers.specs.PassMachines as passes
 use Rattle.barriers.specs.declared.front.Front.{Front}
-use Rattle.barriers.specs.declared.front.Front.TheVariants.{Stays, Now, SealedOrNow}
 use Rattle.barriers.specs.Records.{ended_of, with_end, IsReady}
 use Rattle.lawful_records.specs.Cycling.{announced_by, cycle_of}
 use Rattle.lawful_records.specs.LawfulRecords.{AreSealed, LawfulRecords, IsPassRecord}
 use Rattle.lawful_records.specs.Beginnings.{word_of_end, word_told, rested}
-use Rattle.lawful_records.specs.PassTurns.{IsAnnounced, PassStands, HasTurn, pass_after}
+use Rattle.lawful_records.specs.PassTurns.{IsAnnounced, PassStands, HasTurn, pass_after, seal_for}
 use Rattle.lawful_records.specs.Making.{IsRoom, IsRoomIn, has_room}
 use Rattle.lawful_records.specs.Records.{registers_by, room_by, view_by, number_of, taken_in}
-use Rattle.lawful_records.specs.Turns.{pass_asks, pass_fed, pass_turned, front_by, change_by}
+use Rattle.lawful_records.specs.Turns.{pass_asks, pass_fed, pass_turned, front_by, change_by, seal_in, LooksOn}
 use Rattle.lawful_records.specs.declared.records.PassKnown.{PassKnown}
-use Rattle.lawful_records.proofs.calls.Sights.{IsSealAt, turned_alike}
+use Rattle.lawful_records.proofs.calls.Sights.{IsSealAt, sees_so, turned_alike}
 use Rattle.lawful_records.proofs.parties.Seals.{are_sealed}
 use Rattle.lawful_records.proofs.turns.OwnTurns.{turn_of, kept_of}
-use Rattle.gc_cycle.proofs.records.Stepped.{all_unsealed, none_sealed}
+use Rattle.gc_cycle.proofs.records.Seals.{seal_count, looks_count, sealed_is, records_know}
+use Rattle.gc_cycle.proofs.records.Stepped.{seal_seen, sealed_few}
 use Rattle.lawful_records.proofs.beginnings.Taking.{Standing, end_good}
 use Rattle.lawful_records.proofs.turns.Stepping.{own_there}
-use Rattle.gc_cycle.specs.Worlds.{State, pass_at, command_at, changes_now, asks_at, found_at, fed_at, seen_with, EndFits}
-use Rattle.gc_cycle.specs.Lawful.{Lawful, IsAtCommand, known_in, history_in, records_in, no_room}
+use Rattle.gc_cycle.specs.Worlds.{State, pass_at, command_at, changes_now, asks_at, found_at, seal_at, fed_at, seen_with, EndFits}
+use Rattle.gc_cycle.specs.Lawful.{Lawful, IsAtCommand, known_in, history_in, records_in, seals_in, no_room}
 use Rattle.gc_cycle.specs.Runs.{decides_at}
+use Rattle.heap_history.specs.NewestFirst.{Before}
+use Rattle.heap_history.specs.NewestFirstLaws.{Before-length}
+use Rattle.heap_history.specs.declared.call.Call.{Call}
 use Rattle.gc_cycle.proofs.records.Ends.{Outcome, Polls, Makes, Reads, Writes, Exchanges, Retires, outcome, with_end_is}
 use Rattle.gc_cycle.proofs.script.Ends.{EndSays}
-use Rattle.gc_cycle.proofs.records.Shares.{history_is, record_at}
+use Rattle.gc_cycle.proofs.records.Shares.{history_is, changes_are, record_at}
 use Rattle.gc_cycle.proofs.records.Stepping.{front_is}
 use Rattle.gc_cycle.proofs.script.Lists.{All-slice_get}
 use Rattle.gc_cycle.proofs.script.Machines.{StepSays}
@@ -71,7 +74,7 @@ use Rattle.gc_cycle.proofs.script.Stepping.{found_alike, free_word, all_held, wo
 
 -- ---- in a lawful world
 
-module _ {R W E M : Type 0} (kit : Kit R W E M) (by : Stepping R W E M) (laws : Laws kit by) (w : State R W E) (lw : Lawful kit w) (party : ℕ) (is : IsPass w.layout party) (few : (let p = pass_at w party in p.made) < 262144) (announcement : IsAnnounced w.layout (announced_by (let r = lw.records in r.collector)) (cycle_of (let r = lw.records in r.collector)))
+module _ {R W E M : Type 0} (kit : Kit R W E M) (by : Stepping R W E M) (laws : Laws kit by) (w : State R W E M) (lw : Lawful kit w) (party : ℕ) (is : IsPass w.layout party) (few : (let p = pass_at w party in p.made) < 262144) (announcement : IsAnnounced w.layout (announced_by (let r = lw.records in r.collector)) (cycle_of (let r = lw.records in r.collector)))
     (on : asks_at kit by w party ≢ steps.Ended) where
   abbrev records : LawfulRecords kit w.layout w.words (records_in w)
   records = lw.records
@@ -118,13 +121,27 @@ module _ {R W E M : Type 0} (kit : Kit R W E M) (by : Stepping R W E M) (laws : 
   abbrev n : ℕ
   n = slice_index w.words (place_of (asks_at kit by w party))
 
+  -- the history at the seal of the object at which its step is
+  abbrev seal : Option (List Call)
+  seal = seal_seen kit by w party
+
+  seal_is : IsSealAt s (place_of (asks_at kit by w party)) seal
+  seal_is x f live inside at =
+      let one = records.parties in
+      let are = subst (AreSealed s) (sealed_is kit (seals_in w.sealed (history_in w)) (records_in w) one.collector (records_know w)) (are_sealed kit l records.collector s records.notices (records_in w) one.collector records.each) in
+      ap (seal_in (seals_in w.sealed (history_in w))) at ∙ are.seals x f live inside
+
+  own_sealed : IsPassRecord kit l a c has.space has.notices (pass_turned kit by seal s.history k n)
+  own_sealed = let turn = has.turn in
+      subst (IsPassRecord kit l a c has.space has.notices) (sym (turned_alike kit by laws l a c s records.notices w.words k stands on seal seal_is)) turn.own
+
   found_is : found_at kit by w party ≡ n
   found_is = found_alike (asks_at kit by w party) w.words on
 
   in_layout : IsPass l (let view = p.view in view.pass)
   in_layout = let thread = lw.threads party is in subst (IsPass l) (sym thread.number) is
 
-  fits_at : (command : Option Command) → command_at w party ≡ command → FitsAt kit by laws l a c has.space has.notices w.told.log s.history history p k.seen k.mine k.ended (let own = stands.own in let told = own.told in told.count) n stands.layout in_layout few command
+  fits_at : (command : Option Command) → command_at w party ≡ command → FitsAt kit by laws l a c has.space has.notices w.told.log s.history history p k.seen k.mine k.ended (let own = stands.own in let told = own.told in told.count) n seal stands.layout in_layout few command
   fits_at None at = tt
   fits_at (Some command) at = let script = lw.script in All-slice_get CommandFits (commands_at w.commands party) (length (answers_at w.told.answers party)) command (script.commands party is) at
 
@@ -166,35 +183,29 @@ module _ {R W E M : Type 0} (kit : Kit R W E M) (by : Stepping R W E M) (laws : 
   frees : FreesAt kit by n p.machine
   frees = let thread = lw.threads party is in let own = stands.own in frees_by p.machine (command_at w party) thread.at own.room
 
-  kept : Kept kit by laws l a c has.space has.notices w.told.log s.history history p k.seen k.mine k.ended (let own = stands.own in let told = own.told in told.count) n stands.layout in_layout few p.machine
+  kept : Kept kit by laws l a c has.space has.notices w.told.log s.history history p k.seen k.mine k.ended (let own = stands.own in let told = own.told in told.count) n seal stands.layout in_layout few p.machine
   kept = kept_of kit by laws laws.cycle l a c s records.notices w.words k stands on
 
-  -- nothing is sealed
-  unsealed : (at : ℕ) → IsSealAt s at None
-  unsealed at x f live inside is =
-      let one = records.parties in
-      let are = subst (AreSealed s) (none_sealed (records_in w) (all_unsealed w w.passes)) (are_sealed kit l records.collector s records.notices (records_in w) one.collector records.each) in
-      are.seals x f live inside
-
-  own_unsealed : IsPassRecord kit l a c has.space has.notices (pass_turned kit by None s.history k n)
-  own_unsealed = let turn = has.turn in
-      subst (IsPassRecord kit l a c has.space has.notices) (sym (turned_alike kit by laws l a c s records.notices w.words k stands on None (unsealed (place_of (asks_at kit by w party))))) turn.own
-
-  says : StepSays kit by laws l a c has.space has.notices w.told.log s.history history p k.seen k.mine k.ended (let own = stands.own in let told = own.told in told.count) n p.machine (command_at w party)
+  says : StepSays kit by laws l a c has.space has.notices w.told.log s.history history p k.seen k.mine k.ended (let own = stands.own in let told = own.told in told.count) n seal p.machine (command_at w party)
   says =
       let thread = lw.threads party is in
       let turn = has.turn in
-      says_of kit by laws l a c has.space has.notices w.told.log s.history history p k.seen k.mine k.ended (let own = stands.own in let told = own.told in told.count) n stands.layout in_layout few p.machine (command_at w party)
-      (fits_at (command_at w party) refl) thread.at on frees kept (record { own = own_unsealed; history = turn.history })
+      says_of kit by laws l a c has.space has.notices w.told.log s.history history p k.seen k.mine k.ended (let own = stands.own in let told = own.told in told.count) n seal stands.layout in_layout few p.machine (command_at w party)
+      (fits_at (command_at w party) refl) thread.at on frees kept (record { own = own_sealed; history = turn.history })
 
   -- the record after its step, with the word that it finds
   abbrev then : ℕ → PassRecord R W E
-  then x = record p { machine = pass_fed kit by p.machine x; seen = seen_with (front_by kit by p.machine x) (changes_now w) p.seen }
+  then x = record p { machine = pass_fed kit by p.machine x; seen = seen_with (front_by kit by p.machine x) (option_map (λ (past : List Call). length past) seal) (changes_now w) p.seen }
+
+  seal_counts : seal_at kit by w party ≡ option_map (λ (past : List Call). length past) seal
+  seal_counts = seal_count w.sealed (history_in w) (place_of (asks_at kit by w party)) (sealed_few kit by laws w lw party is)
 
   fed_is : then n ≡ fed_at kit by w party
   fed_is =
       let x = found_at kit by w party in
-      ap then (sym found_is) ∙ ap (λ f. record p { machine = pass_fed kit by p.machine x; seen = seen_with f (changes_now w) p.seen }) (sym (front_is kit by p.machine x))
+      ap then (sym found_is)
+      ∙ ap (λ (o : Option ℕ). record p { machine = pass_fed kit by p.machine x; seen = seen_with (front_by kit by p.machine x) o (changes_now w) p.seen }) (sym seal_counts)
+      ∙ ap (λ (f : Front). record p { machine = pass_fed kit by p.machine x; seen = seen_with f (seal_at kit by w party) (changes_now w) p.seen }) (sym (front_is kit by p.machine x))
 
   decides_is : is_some (change_by kit by p.machine (let view = p.view in view.pass) n) ≡ decides_at kit by w party
   decides_is = ap (λ x. is_some (change_by kit by p.machine (let view = p.view in view.pass) x)) (sym found_is)
@@ -215,24 +226,44 @@ module _ {R W E M : Type 0} (kit : Kit R W E M) (by : Stepping R W E M) (laws : 
       let own = turn.own in
       (says.ends end over, words_after kit (then n) (pass_fed kit by p.machine n) end over (λ i. let good = own.registers i in good.0))
 
-  -- what was seen
-  later_by : (front : Front) (changes seen : ℕ) → seen ≤ changes → (seen ≤ seen_with front changes seen) × (seen_with front changes seen ≤ changes)
-  later_by Stays changes seen below = (omega arith, below)
-  later_by Now changes seen below = (below, omega arith)
-  later_by SealedOrNow changes seen below = (below, omega arith)
+  -- ---- what was seen
+
+  -- what its look has seen
+  abbrev look : List Call
+  look = knowns.front (front_by kit by p.machine n) seal s.history k.seen
+
+  looks : LooksOn (front_by kit by p.machine n) (seal_for kit by s p.machine) s.history k.seen
+  looks = let turn = has.turn in turn.looks
+
+  look_is : look ≡ knowns.front (front_by kit by p.machine n) (seal_for kit by s p.machine) s.history k.seen
+  look_is = sees_so kit by laws l a c s records.notices w.words k p.machine stands on seal seal_is
+
+  -- is no less than it had seen, and no more than there is
+  look_later : length k.seen ≤ length look
+  look_later = Before-length k.seen look (subst (Before k.seen) (sym look_is) looks.later)
+
+  look_within : length look ≤ length s.history
+  look_within = Before-length look s.history (subst (λ (seen : List Call). Before seen s.history) (sym look_is) looks.past)
+
+  look_counts : (let q = fed_at kit by w party in q.seen) ≡ length look
+  look_counts =
+      let own = stands.own in
+      let told = own.told in
+      let all : changes_now w ≡ length s.history = changes_are kit w lw ∙ ap (λ (cs : List Call). length cs) (sym history) in
+      ap (λ (q : PassRecord R W E). q.seen) (sym fed_is) ∙ looks_count (front_by kit by p.machine n) seal s.history k.seen p.seen (changes_now w) all told.count
 
   pub has_stepped : HasStepped kit by w party
   has_stepped =
-      let thread = lw.threads party is in
-      let tells = thread.tells in
       let x = found_at kit by w party in
-      let seen = later_by (passes.front_of by.read_front by.write_front by.exchange_front p.machine x) (changes_now w) p.seen tells.seen_before in
+      let own = stands.own in
+      let told = own.told in
+      let all : changes_now w ≡ length s.history = changes_are kit w lw ∙ ap (λ (cs : List Call). length cs) (sym history) in
       record {
-        later = seen.0;
-        within = seen.1;
+        later = omega (arith, look_counts, look_later, told.count);
+        within = omega (arith, look_counts, look_within, all);
         goes = both Goes says.goes;
         ends = both Ends ends_so;
-        looked = ap (λ f. seen_with f (changes_now w) p.seen) (front_is kit by p.machine x);
+        looked = ap (λ (f : Front). seen_with f (seal_at kit by w party) (changes_now w) p.seen) (front_is kit by p.machine x);
       }
 
   -- ---- what comes of its end can be done

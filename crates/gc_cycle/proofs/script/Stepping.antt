@@ -91,17 +91,17 @@ FreesAt kit by n (machine.New (make.Claim plan round)) = n ≡ 0
 FreesAt kit by n m = Unit {0}
 
 module _ {R W E M : Type 0} (kit : Kit R W E M) (by : Stepping R W E M) (laws : Laws kit by) (l : Sizes) (a : Announced) (c : Cycle) (t : Space) (o : Notices) (log : List EndedCall) (hist : List Call) (hist_is : hist ≡ reverse (changes_of log))
-    (p : PassRecord R W E) (seen mine : List Call) (es : List EndedCall) (count : p.seen ≡ length seen) (n : ℕ) (fits : IsLayout l) (in_layout : IsPass l (let view = p.view in view.pass)) (few : p.made < 262144) where
+    (p : PassRecord R W E) (seen mine : List Call) (es : List EndedCall) (count : p.seen ≡ length seen) (n : ℕ) (seal : Option (List Call)) (fits : IsLayout l) (in_layout : IsPass l (let view = p.view in view.pass)) (few : p.made < 262144) where
   abbrev Says : PassMachine R W E → Option Command → Type 0
-  Says m command = StepSays kit by laws l a c t o log hist hist_is p seen mine es count n m command
+  Says m command = StepSays kit by laws l a c t o log hist hist_is p seen mine es count n seal m command
 
   abbrev After : PassMachine R W E → Type 0
-  After m = IsAfterStep kit by laws l a c t o log hist hist_is p seen mine es count n m
+  After m = IsAfterStep kit by laws l a c t o log hist hist_is p seen mine es count n seal m
 
   abbrev pub Kept : PassMachine R W E → Type 0
   Kept m = (k next : Known) → known_of kit m ≡ Some k → known_of kit (pass_fed kit by m n) ≡ Some next → CallKept k next
 
-  frees_is : (y : NewMachine) (dst len : ℕ) (short : len ≤ 30) → FreesAt kit by n (machine.New y) → Claims kit by laws l a c t o log hist hist_is p seen mine es count n fits in_layout dst len short few y → n ≡ 0
+  frees_is : (y : NewMachine) (dst len : ℕ) (short : len ≤ 30) → FreesAt kit by n (machine.New y) → Claims kit by laws l a c t o log hist hist_is p seen mine es count n seal fits in_layout dst len short few y → n ≡ 0
   frees_is (make.Look plan round) dst len short free claims = free
   frees_is (make.Claim plan round) dst len short free claims = free
   frees_is (make.Fill at placement) dst len short free claims = absurd claims
@@ -115,14 +115,14 @@ module _ {R W E M : Type 0} (kit : Kit R W E M) (by : Stepping R W E M) (laws : 
   pub says_of : (m : PassMachine R W E) (command : Option Command) → FitsAt command → IsAtCommand kit l (record p { machine = m }) command → pass_asks kit by m ≢ steps.Ended → FreesAt kit by n m → Kept m → After m → Says m command
   says_of machine.Idle command fit at on free kept is = absurd (on refl)
   says_of machine.Retired command fit at on free kept is = absurd (on refl)
-  says_of (machine.Poll x) (Some command) fit at on free kept is = poll_says kit by laws l a c t o log hist hist_is p seen mine es count n x command is
-  says_of (machine.Retire x) None fit at on free kept is = retire_says kit by laws l a c t o log hist hist_is p seen mine es count n x
+  says_of (machine.Poll x) (Some command) fit at on free kept is = poll_says kit by laws l a c t o log hist hist_is p seen mine es count n seal x command is
+  says_of (machine.Retire x) None fit at on free kept is = retire_says kit by laws l a c t o log hist hist_is p seen mine es count n seal x
   says_of (machine.New y) (Some (commands.New dst len)) fit at on free kept is =
-      new_says kit by laws l a c t o log hist hist_is p seen mine es count n fits in_layout dst len fit.1 few y at (frees_is y dst len fit.1 free) is
-  says_of (machine.Read x) (Some (commands.Get dst obj field)) fit at on free kept is = read_says kit by laws l a c t o log hist hist_is p seen mine es count n x dst obj field at (kept _ _ refl refl) is
-  says_of (machine.Write x) (Some (commands.Put obj field what)) fit at on free kept is = write_says kit by laws l a c t o log hist hist_is p seen mine es count n x obj field what at (kept _ _ refl refl) is
+      new_says kit by laws l a c t o log hist hist_is p seen mine es count n seal fits in_layout dst len fit.1 few y at (frees_is y dst len fit.1 free) is
+  says_of (machine.Read x) (Some (commands.Get dst obj field)) fit at on free kept is = read_says kit by laws l a c t o log hist hist_is p seen mine es count n seal x dst obj field at (kept _ _ refl refl) is
+  says_of (machine.Write x) (Some (commands.Put obj field what)) fit at on free kept is = write_says kit by laws l a c t o log hist hist_is p seen mine es count n seal x obj field what at (kept _ _ refl refl) is
   says_of (machine.Exchange x) (Some (commands.Cas dst obj field expected value)) fit at on free kept is =
-      exchange_says kit by laws l a c t o log hist hist_is p seen mine es count n x dst obj field expected value at (kept _ _ refl refl) is
+      exchange_says kit by laws l a c t o log hist hist_is p seen mine es count n seal x dst obj field expected value at (kept _ _ refl refl) is
   says_of m None fit at on free kept is = absurd at
   says_of m (Some (commands.New dst len)) fit at on free kept is = absurd at
   says_of m (Some (commands.Get dst obj field)) fit at on free kept is = absurd at

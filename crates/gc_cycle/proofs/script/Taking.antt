@@ -26,7 +26,7 @@ use Rattle.gc_cycle.proofs.script.Stepped.{stands, concludes}
 use Rattle.gc_cycle.proofs.script.Turns.{made_few}
 use Rattle.gc_cycle.proofs.script.Worlds.{scripted_of, place_here}
 
-module _ {R W E M : Type 0} (kit : Kit R W E M) (by : Stepping R W E M) (laws : Laws kit by) (w : State R W E) (lw : Lawful kit w) where
+module _ {R W E M : Type 0} (kit : Kit R W E M) (by : Stepping R W E M) (laws : Laws kit by) (w : State R W E M) (lw : Lawful kit w) where
   -- each thread has no more answers than commands
   answers_few : (u : ℕ) → 1 ≤ u → u ≤ length w.commands → length (answers_at w.told.answers u) ≤ length (commands_at w.commands u)
   answers_few u least most = let script = lw.script in let thread = lw.threads u (least, omega (arith, most, script.threads)) in thread.fit

@@ -51,11 +51,11 @@ module _ {R W E : Type 0} where
 
 module _ {R W E M : Type 0} (kit : Kit R W E M) (by : Stepping R W E M) where
   -- the record after its step
-  abbrev fed : State R W E → ℕ → PassRecord R W E
+  abbrev fed : State R W E M → ℕ → PassRecord R W E
   fed w party = fed_at kit by w party
 
   -- What the step of a thread's machine comes to: it goes on, or has ended as its command may.
-  pub record HasStepped (w : State R W E) (party : ℕ) : Type 0 where
+  pub record HasStepped (w : State R W E M) (party : ℕ) : Type 0 where
     pub later : (let p = pass_at w party in p.seen) ≤ (let p = fed w party in p.seen)
     pub within : (let p = fed w party in p.seen) ≤ changes_now w
     pub goes : ended_of kit (let p = fed w party in p.machine) ≡ None → IsAtCommand kit w.layout (fed w party) (command_at w party) × (decides_at kit by w party ≡ false)
@@ -64,7 +64,7 @@ module _ {R W E M : Type 0} (kit : Kit R W E M) (by : Stepping R W E M) where
     pub looked : (let p = fed w party in p.seen) ≡ looked_at kit by w party
 
   -- a turn leaves the script's part of a lawful world, and moves so
-  pub record IsTurned (w : State R W E) (party : ℕ) (new : State R W E) : Type 0 where
+  pub record IsTurned (w : State R W E M) (party : ℕ) (new : State R W E M) : Type 0 where
     pub scripted : IsScripted kit new
     pub moves : Moves kit by w party new
 
@@ -87,7 +87,7 @@ module _ {R W E M : Type 0} (kit : Kit R W E M) (by : Stepping R W E M) where
   end_seen p (ends.Exchange end) = refl
   end_seen p ends.Retire = refl
 
-  module _ (laws : Laws kit by) (w : State R W E) (lw : IsScripted kit w) (party : ℕ) (is : IsPass w.layout party) (step : HasStepped w party) where
+  module _ (laws : Laws kit by) (w : State R W E M) (lw : IsScripted kit w) (party : ℕ) (is : IsPass w.layout party) (step : HasStepped w party) where
     abbrev l : Sizes
     l = w.layout
 
@@ -106,7 +106,7 @@ module _ {R W E M : Type 0} (kit : Kit R W E M) (by : Stepping R W E M) where
     abbrev p : PassRecord R W E
     p = fed w party
 
-    abbrev w1 : State R W E
+    abbrev w1 : State R W E M
     w1 = stepped kit by w party
 
     abbrev thread : IsThread kit w party
@@ -123,7 +123,7 @@ module _ {R W E M : Type 0} (kit : Kit R W E M) (by : Stepping R W E M) where
 
     -- ---- the world with its record set
 
-    abbrev with_record : PassRecord R W E → Telling → State R W E
+    abbrev with_record : PassRecord R W E → Telling → State R W E M
     with_record x told = with_told kit w w1.words (set (set w.passes (party - 1) p) (party - 1) x) told
 
     set_count : (x : PassRecord R W E) → length (set (set w.passes (party - 1) p) (party - 1) x) ≡ length w.passes
@@ -151,7 +151,7 @@ module _ {R W E M : Type 0} (kit : Kit R W E M) (by : Stepping R W E M) where
             answers_there = λ q other apart. refl;
             thread = record { number = resting.number; tells = resting.tells; fit = thread.fit; at = goes.0; going = none; room = resting.room; left = resting.left };
           });
-          moves = moves_next kit by w party step.looked w1.words passes w.told p None (record {
+          moves = moves_next kit by w party step.looked step.later step.within w1.words passes w.told p None (record {
             there = there;
             here = here;
             log_is = refl;
@@ -182,7 +182,7 @@ module _ {R W E M : Type 0} (kit : Kit R W E M) (by : Stepping R W E M) where
             answers_there = λ q other apart. ap (λ (y : List (List Answer)). answers_at y q) answers_are;
             thread = subst A (sym answers_are) (subst L (sym log_is) thread_is);
           });
-          moves = moves_next kit by w party step.looked w1.words passes told x None (record {
+          moves = moves_next kit by w party step.looked step.later step.within w1.words passes told x None (record {
             there = there;
             here = here;
             log_is = log_is;
@@ -222,7 +222,7 @@ module _ {R W E M : Type 0} (kit : Kit R W E M) (by : Stepping R W E M) where
             answers_there = λ r other apart. set_there w.told.answers party r (answers ++ answer ∷ []) [] is.0 other.0 apart;
             thread = subst (λ (y : List Answer). IsThreadOf kit l t x y (logged log call)) (sym one) (goes_on kit l t q answers log made p.seen answer call below is_answered);
           });
-          moves = moves_next kit by w party step.looked w1.words passes told x call (record {
+          moves = moves_next kit by w party step.looked step.later step.within w1.words passes told x call (record {
             there = there;
             here = here;
             log_is = refl;

@@ -9,11 +9,10 @@ use Rattle.heap_script.specs.TellingSteps.{answers_at}
 use Rattle.barriers.specs.declared.pass.PassRecord.{PassRecord}
 use Rattle.barriers.specs.declared.pass.PassMachine.TheVariants as machine
 use Rattle.barriers.specs.Kits.{Kit, Stepping, Laws}
-use Rattle.lawful_records.specs.Collectors as collectors
 use Rattle.lawful_records.specs.Cycling.{cycle_of}
 use Rattle.lawful_records.specs.LawfulRecords.{LawfulRecords}
 use Rattle.lawful_records.proofs.RecordLaws.{announced}
-use Rattle.gc_cycle.specs.Worlds.{State, IsParty, pass_at, command_at, nobody, asks_at, next_of, is_ended, is_collector, taken, collected, turn_of}
+use Rattle.gc_cycle.specs.Worlds.{State, IsParty, pass_at, command_at, nobody, asks_at, next_of, is_ended, is_collector, taken, collector_asks, collected, turn_of}
 use Rattle.gc_cycle.specs.Lawful.{Lawful, known_in, records_in, thread_of}
 use Rattle.gc_cycle.specs.Runs.{Moves}
 use Rattle.gc_cycle.proofs.Playing.{is_ended-true, is_ended-false, party_is_pass}
@@ -26,8 +25,8 @@ use Rattle.gc_cycle.proofs.script.Stepped.{has_stepped}
 use Rattle.gc_cycle.proofs.script.Turned.{IsTurned, thread_turn}
 use Rattle.gc_cycle.proofs.script.Worlds.{scripted_of, lawful_of}
 
-module _ {R W E M : Type 0} (kit : Kit R W E M) (by : Stepping R W E M) (laws : Laws kit by) (w : State R W E) (lw : Lawful kit w) (party : ℕ) where
-  abbrev Turned : State R W E → Type 0
+module _ {R W E M : Type 0} (kit : Kit R W E M) (by : Stepping R W E M) (laws : Laws kit by) (w : State R W E M) (lw : Lawful kit w) (party : ℕ) where
+  abbrev Turned : State R W E M → Type 0
   Turned new = IsTurned kit by w party new
 
   -- the pass has birth numbers left
@@ -54,16 +53,16 @@ module _ {R W E M : Type 0} (kit : Kit R W E M) (by : Stepping R W E M) (laws : 
       retired_is kit by laws w.layout (cycle_of records.collector) records.space records.notices (known_in w (pass_at w party)) (pass_at w party) (command_at w party) thread.at thread.going own.machine ended
 
   thread_rests : IsPass w.layout party → asks_at kit by w party ≡ Ended → Turned w
-  thread_rests is ended = turned_still kit by w (scripted_of kit w lw) party (still_retired kit by w party (retired_at_end is ended)) w.words w.collector w.awaited
+  thread_rests is ended = turned_still kit by w (scripted_of kit w lw) party (still_retired kit by w party (retired_at_end is ended)) w.words w.collector w.awaited w.sealed w.moved lw.sealed
 
   collector_rests : is_collector kit by w party ≡ true → Turned w
   collector_rests is =
       let past : pass_at w party ≡ nobody = get_or_past w.passes (party - 1) nobody (omega (arith, lw.passes, ltb-true w.layout.passes party is)) in
-      turned_still kit by w (scripted_of kit w lw) party (still_idle kit by w party (ap (λ (x : PassRecord R W E). x.machine) past)) w.words w.collector w.awaited
+      turned_still kit by w (scripted_of kit w lw) party (still_idle kit by w party (ap (λ (x : PassRecord R W E). x.machine) past)) w.words w.collector w.awaited w.sealed w.moved lw.sealed
 
   -- the step of a thread's turn is its machine's
   next_is : is_collector kit by w party ≡ false → next_of kit by w party ≡ asks_at kit by w party
-  next_is is = ap (λ b. cond b (collectors.asks_of w.collector) (asks_at kit by w party)) is
+  next_is is = ap (λ b. cond b (collector_asks kit by w) (asks_at kit by w party)) is
 
   rests_is : is_ended (next_of kit by w party) ≡ true → turn_of kit by w party ≡ w
   rests_is ended = rw ended refl

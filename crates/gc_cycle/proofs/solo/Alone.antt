@@ -18,13 +18,13 @@ use Rattle.barriers.specs.declared.pass.PassMachine.TheVariants as machine
 use Rattle.barriers.specs.declared.exchange.ExchangeMachine.TheVariants as exchange
 use Rattle.barriers.specs.declared.plain_exchange.PlainExchange.TheVariants as plain
 use Rattle.lawful_records.specs.Collectors.{collector_of}
-use Rattle.lawful_records.specs.Collectors as collectors
+use Rattle.object_headers.specs.declared.change.Kind.TheVariants as kinds
 use Rattle.lawful_records.specs.Handshakes.{IsCollector}
 use Rattle.at_rest.specs.Knowing.{kit_at_rest}
 use Rattle.at_rest.specs.Rests.{steps_at_rest, laws_at_rest}
 use Rattle.gc_cycle.specs.declared.schedule.Chooser.TheVariants as choosers
 use Rattle.gc_cycle.specs.Schedules.{lowest}
-use Rattle.gc_cycle.specs.Worlds.{answered, IsParty, IsThere, is_ended, asks_at, is_collector, can_step, collected, taken, turn_of}
+use Rattle.gc_cycle.specs.Worlds.{answered, IsParty, IsThere, is_ended, asks_at, is_collector, can_step, collector_asks, collected, taken, turn_of}
 use Rattle.gc_cycle.specs.Lawful.{Lawful}
 use Rattle.gc_cycle.specs.Runs.{ready_of, is_over, turns_of}
 use Rattle.gc_cycle.proofs.Schedules.{lowest_is_ready, lowest_is_least}
@@ -131,7 +131,7 @@ IsAlone w q = WantsNone (machine_at w q) ⊎ ((q ≡ lowest (ready w)) × IsWant
 -- No exchange but that of the lowest thread that can step wants a word; and as long as a thread runs, the collector has not begun.
 pub record IsSolo (cycles : ℕ) (w : RestState) : Type 0 where
   pub threads : (q : ℕ) → IsPass w.layout q → IsAlone w q
-  pub collector : (w.collector ≡ collector_of w.layout cycles) ⊎ ((q : ℕ) → IsPass w.layout q → has_ended w q ≡ true)
+  pub collector : (w.collector ≡ collector_of kit_at_rest w.layout cycles) ⊎ ((q : ℕ) → IsPass w.layout q → has_ended w q ≡ true)
 
 alone_wants : (w : RestState) (q : ℕ) → IsAlone w q → IsWanted (reading w.words) (machine_at w q)
 alone_wants w q (inl none) = none_wanted (reading w.words) (machine_at w q) none
@@ -170,7 +170,7 @@ module _ (cycles : ℕ) (w : RestState) (lw : Lawful kit_at_rest w) (solo : IsSo
     runs = thread_runs w first is_pass among
 
     -- the collector has not begun
-    waits : w.collector ≡ collector_of w.layout cycles
+    waits : w.collector ≡ collector_of kit_at_rest w.layout cycles
     waits = elim solo.collector [ inl start ↦ start | inr idle ↦ absurd (cc (idle first is_pass, runs)) ]
 
     goes : Goes w first (left (machine_at w first)) new
@@ -248,7 +248,7 @@ module _ (cycles : ℕ) (w : RestState) (lw : Lawful kit_at_rest w) (solo : IsSo
     thread_next : Next cycles w (turn w first)
     thread_next =
         subst (Next cycles w) (sym (turn_takes w first can (le-ltb w.layout.passes first is_pass.1))) (record {
-          solo = record { threads = each_alone; collector = inl (goes.collector ∙ waits ∙ ap (λ (l : Sizes). collector_of l cycles) (sym goes.layout)) };
+          solo = record { threads = each_alone; collector = inl (goes.collector ∙ waits ∙ ap (λ (l : Sizes). collector_of kit_at_rest l cycles) (sym goes.layout)) };
           less = thread_less;
         })
 
@@ -275,13 +275,13 @@ module _ (cycles : ℕ) (w : RestState) (lw : Lawful kit_at_rest w) (solo : IsSo
         let retired = retired_at_end kit_at_rest steps_at_rest laws_at_rest w lw q is (is_ended-true (asks (machine_at w q)) (ended_is q is)) in
         sym said.word_is ∙ said.retired.1 retired
 
-    collector_on : collectors.asks_of w.collector ≢ Ended
-    collector_on = is_ended-false (collectors.asks_of w.collector) (not_true _ (rw collects at can))
+    collector_on : collector_asks kit_at_rest steps_at_rest w ≢ Ended
+    collector_on = is_ended-false (collector_asks kit_at_rest steps_at_rest w) (not_true _ (rw collects at can))
 
     collector_less : all_to_do (collected kit_at_rest steps_at_rest w) < all_to_do w
     collector_less =
         let its = collector_record kit_at_rest w lw in
-        let plays = subst (λ k. IsCollector w.layout its.cycles k) (sym its.machine) its.collects in
+        let plays = subst (λ k. IsCollector w.layout kinds.AtRest its.cycles k) (sym its.machine) its.collects in
         let falls = collector_falls w.layout its.cycles w.words acks_ended w.collector plays collector_on in
         omega (arith, falls)
 

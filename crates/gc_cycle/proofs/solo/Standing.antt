@@ -149,7 +149,7 @@ not_retired : (m : RestMachine) → asks m ≢ steps.Ended → m ≢ machine.Ret
 not_retired m on is = on (ap asks is)
 
 -- where the collector has not begun
-pub unhindered : (w : RestState) → Lawful kit_at_rest w → (p : ℕ) → IsPass w.layout p → (cycles : ℕ) → w.collector ≡ collector_of w.layout cycles → asks_at kit_at_rest steps_at_rest w p ≢ steps.Ended
+pub unhindered : (w : RestState) → Lawful kit_at_rest w → (p : ℕ) → IsPass w.layout p → (cycles : ℕ) → w.collector ≡ collector_of kit_at_rest w.layout cycles → asks_at kit_at_rest steps_at_rest w p ≢ steps.Ended
     → IsUnhindered (reading w.words) (machine_at w p)
 unhindered w lw p is cycles start on =
     let r : RestRecord = pass_at w p in

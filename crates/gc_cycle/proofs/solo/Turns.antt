@@ -40,10 +40,11 @@ use Rattle.gc_cycle.specs.declared.sequel.Sequel.{Sequel}
 use Rattle.gc_cycle.specs.declared.sequel.Sequel.TheVariants as sequel
 use Rattle.gc_cycle.specs.Sequels.{sequel_of}
 use Rattle.gc_cycle.specs.Worlds.{State, nobody, pass_at, answered, changes_now, face_of, put_pass, or_else, with_put, in_front, IsThere, asks_at, fed_at, stepped, taken, answered_with, access_begun, followed_at, concluded_by, settled_by, command_at}
+use Rattle.at_rest.specs.declared.stay.StayMachine.{StayMachine}
 use Rattle.gc_cycle.proofs.solo.Left.{RestMachine, left, left_new, IsWanted, IsUnhindered, most_left, IsLess, IsOnward, some_left, goes_on}
 
 abbrev pub RestState : Type 0
-RestState = State ReadMachine WriteMachine ExchangeMachine
+RestState = State ReadMachine WriteMachine ExchangeMachine StayMachine
 
 abbrev pub RestRecord : Type 0
 RestRecord = PassRecord ReadMachine WriteMachine ExchangeMachine

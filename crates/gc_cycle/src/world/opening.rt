@@ -15,19 +15,9 @@ use call_steps::{OutOfMemory, PlainWords, Step};
 use handshakes::PassView;
 use heap_script::{Command, Commands, Line, Script, Told};
 use heap_words::{FieldWord, Layout};
-use lawful_records::{Awaited, CollectorMachine};
-use object_headers::{Colour, Header, State};
+use lawful_records::{Awaited, COMMON, Stage};
 use space_reclaim::RegionWord;
 use std::alloc::Global;
-
-/// The header of the object that is there from the start.
-const COMMON: Header = Header {
-    state: State::Plain,
-    colour: Colour::Even,
-    len: 8,
-    birth: 1,
-    target: 0,
-};
 
 /// The words of a region.
 const REGION_WORDS: u32 = 64;
@@ -166,6 +156,7 @@ where
     P::Read: Copy,
     P::Write: Copy,
     P::Exchange: Copy,
+    P::Move: Copy,
 {
     /// Whether the objects of each thread fit one region.
     pub fn has_room_for(script: &Script) -> bool
@@ -195,7 +186,7 @@ where
         let words = opening_words(alloc, &layout)?;
         let commands = Commands::of_lines(alloc, &script.lines, layout.passes())?;
         let passes = opening_passes::<P>(alloc, &layout, &commands)?;
-        let collector = CollectorMachine::new(&layout, script.cycles);
+        let collector = Stage::first::<P>(&layout, script.cycles);
         let told = Told::opening(alloc, &commands)?;
         Ok(World {
             layout,
@@ -204,6 +195,8 @@ where
             passes,
             collector,
             awaited: Awaited::NONE,
+            sealed: None,
+            moved: None,
             told,
         })
     }

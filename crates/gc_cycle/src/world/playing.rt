@@ -34,6 +34,7 @@ where
     P::Read: Copy,
     P::Write: Copy,
     P::Exchange: Copy,
+    P::Move: Copy,
 {
     /// Whether the party is the collector.
     fn is_collector(&self, party: u32) -> bool

@@ -26,6 +26,7 @@ where
     P::Read: Copy,
     P::Write: Copy,
     P::Exchange: Copy,
+    P::Move: Copy,
 {
     /// The history: each change in the order of its deciding step, each look after the last change of its front, and
     /// looks with one front in the order in which they ended. Where all parties have ended, the answers are allowed for

@@ -2,7 +2,7 @@ use Rattle.std.proofs.Common.{◌∙◌, sym, subst, length}
 use Rattle.call_steps.specs.Steps.{IsInside}
 use Rattle.gc_cycle.specs.Steppings.{stepping_of}
 use Rattle.gc_cycle.proofs.Playing.{asks_by, collects_by, party_is_pass}
-use Rattle.gc_cycle.proofs.Acknowledging.{can_collect}
+use Rattle.gc_cycle.proofs.records.TurnLaws.{can_collect}
 use Rattle.gc_cycle.proofs.Turning.{can_take}
 use Rattle.gc_cycle.proofs.world.World.step.Goals as goal
 
@@ -20,4 +20,4 @@ collect-requires-clause-inside g c =
     let w = c.args.self.now in
     let collects = sym c.is_collector.ensures ∙ c.if-is_collector.true in
     let asks = collects_by g.P.Copier.kit by w c.args.party c.args.step c.requires.next collects in
-    subst (IsInside (length w.words)) (sym asks) (can_collect g.P.Copier.kit w c.requires.lawful)
+    subst (IsInside (length w.words)) (sym asks) (can_collect g.P.Copier.kit by g.met.P.Copier.laws w c.requires.lawful)
