@@ -1,7 +1,7 @@
 -- Worlds played under a schedule, and what a turn leaves and changes.
 use Rattle.std.specs.Prelude.{◌≡◌, ◌≢◌, ℕ, zero, suc, ◌+◌, ◌*◌, ◌≤◌, ◌<◌, Bool, true, false, is_some, if◌then◌else◌, List, [], ◌∷◌, length, Option, Some}
 use Rattle.std.specs.List.{filter, range_with_len}
-use Rattle.heap_words.specs.Layouts.{IsPass}
+use Rattle.heap_words.specs.Layouts.{IsPass, words_of}
 use Rattle.call_steps.specs.declared.step.Step.{Step}
 use Rattle.heap_history.specs.declared.call.Ended.{Ended}
 use Rattle.heap_history.specs.Histories.{pass_of}
@@ -24,14 +24,13 @@ use Rattle.gc_cycle.specs.Worlds.{State, pass_at, command_at, changes_now, place
 
 -- ---- runs
 
--- Where one thread plays after another and no access takes a step more, a command takes at most four: a `new` loads the
--- phase word, loads and claims the region's word and stores the header, and a `cas` loads the phase word, the header and
--- the field and exchanges it. A thread that retires stores eight registers, the word of its region and its
--- acknowledgement. Then the collector stores each of the five phases of a cycle, and loads the acknowledgement of each
--- thread.
+-- Where one thread plays after another, a command takes a poll and at most 17 steps, and a thread that retires ten: it stores
+-- eight registers, the word of its region and its acknowledgement. Then the collector stores each of the five phases of a
+-- cycle, and loads the acknowledgement of each thread; a cycle with a job takes at most 67 steps more. So 64 steps, and one
+-- for each region of a thread, are enough for a line, 64 for a thread, and for a cycle 64 for each word of the table.
 abbrev pub enough_steps : Reading → ℕ
 enough_steps script =
-    4 * length script.lines + 10 * script.layout.passes + 5 * script.cycles * (1 + script.layout.passes)
+    length script.lines * (64 + script.layout.quota) + script.layout.passes * 64 + (script.cycles + 1) * 64 * words_of script.layout
 
 abbrev pub is_none : List ℕ → Bool
 is_none [] = true

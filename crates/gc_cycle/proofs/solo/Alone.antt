@@ -1,4 +1,4 @@
--- The turns of a schedule that plays one party after another, over the copier at rest: each leaves less to do.
+-- The turns of a schedule that plays one party after another: each leaves less to do.
 use Rattle.std.proofs.Common.{◌≡◌, ◌≢◌, ℕ, zero, suc, ◌+◌, ◌-◌, ◌<◌, ◌≤◌, ◌⊎◌, Bool, true, false, cond, not, List, length, get_or, refl, sym, ap, ◌∙◌, subst, arith, inl, inr}
 use Rattle.std.specs.Prelude.{sum_by}
 use Rattle.std.specs.List.{range_with_len, Contains}
@@ -7,24 +7,24 @@ use Rattle.std.proofs.lemmas.Bool.Decides.{eqb_tells}
 use Rattle.std.proofs.lemmas.Bool.{le-ltb, lt-ltb, cases_lt}
 use Rattle.std.proofs.lemmas.List.Kept.{IsNonDecreasingBy-filter}
 use Rattle.std.proofs.lemmas.List.FromFn.{length-range_with_len, get_or-range_with_len}
+use Rattle.call_steps.specs.declared.step.Step.{Step}
 use Rattle.call_steps.specs.declared.step.Step.TheVariants.{Ended}
+use Rattle.call_steps.specs.declared.step.Step.TheVariants as steps
 use Rattle.call_steps.specs.StepLaws.{reading}
 use Rattle.heap_words.specs.Layouts.{Sizes, IsPass, ack_at}
 use Rattle.heap_script.specs.declared.script.Command.{Command}
 use Rattle.heap_script.specs.Commands.{commands_at}
 use Rattle.heap_script.specs.SumLaws.{sum_by-lt}
 use Rattle.handshakes.specs.PhaseWords.{retired_word}
+use Rattle.barriers.specs.declared.pass.PassMachine.{PassMachine}
 use Rattle.barriers.specs.declared.pass.PassMachine.TheVariants as machine
-use Rattle.barriers.specs.declared.exchange.ExchangeMachine.TheVariants as exchange
-use Rattle.barriers.specs.declared.plain_exchange.PlainExchange.TheVariants as plain
+use Rattle.barriers.specs.declared.pass.PassRecord.{PassRecord}
+use Rattle.barriers.specs.Kits.{Kit, Stepping, Laws}
 use Rattle.lawful_records.specs.Collectors.{collector_of}
-use Rattle.object_headers.specs.declared.change.Kind.TheVariants as kinds
 use Rattle.lawful_records.specs.Handshakes.{IsCollector}
-use Rattle.at_rest.specs.Knowing.{kit_at_rest}
-use Rattle.at_rest.specs.Rests.{steps_at_rest, laws_at_rest}
 use Rattle.gc_cycle.specs.declared.schedule.Chooser.TheVariants as choosers
 use Rattle.gc_cycle.specs.Schedules.{lowest}
-use Rattle.gc_cycle.specs.Worlds.{answered, IsParty, IsThere, is_ended, asks_at, is_collector, can_step, collector_asks, collected, taken, turn_of}
+use Rattle.gc_cycle.specs.Worlds.{State, answered, IsParty, IsThere, is_ended, asks_at, is_collector, can_step, collector_asks, collected, taken, turn_of}
 use Rattle.gc_cycle.specs.Lawful.{Lawful}
 use Rattle.gc_cycle.specs.Runs.{ready_of, is_over, turns_of}
 use Rattle.gc_cycle.proofs.Schedules.{lowest_is_ready, lowest_is_least}
@@ -34,283 +34,287 @@ use Rattle.gc_cycle.proofs.Running.{ready_is_party}
 use Rattle.gc_cycle.proofs.Playing.{is_ended-true, is_ended-false}
 use Rattle.gc_cycle.proofs.AllowedAnswers.{ready_if, ready_is, thread_steps, some_are}
 use Rattle.gc_cycle.proofs.solo.CollectorEnds.{left_of_collector, collector_falls}
-use Rattle.gc_cycle.proofs.solo.Left.{RestMachine, left, IsWanted, asks}
+use Rattle.gc_cycle.proofs.solo.Left.{left, IsWanted, asks}
+use Rattle.gc_cycle.proofs.solo.PlaysAlone.{WantsNone, PlaysAlone}
 use Rattle.gc_cycle.proofs.solo.Standing.{unhindered}
-use Rattle.gc_cycle.proofs.solo.Turns.{RestState, RestRecord, machine_at, left_with, to_do, Goes, turn_goes}
+use Rattle.gc_cycle.proofs.solo.Turns.{machine_at, left_with, to_do, none_finds, Goes, turn_goes}
 
--- until all parties have ended
-abbrev pub all_to_do : RestState → ℕ
-all_to_do w = sum_by (to_do w) (range_with_len 1 w.layout.passes) + left_of_collector w.collector
-
-abbrev pub ready : RestState → List ℕ
-ready w = ready_of kit_at_rest steps_at_rest w
-
-abbrev pub turn : RestState → ℕ → RestState
-turn w party = turn_of kit_at_rest steps_at_rest w party
-
--- whether a thread has no step left
-abbrev pub has_ended : RestState → ℕ → Bool
-has_ended w party = is_ended (asks (machine_at w party))
-
--- ---- what nobody else's steps disturb
-
--- no exchange wants a word
-abbrev pub WantsNone : RestMachine → Type 0
-WantsNone (machine.Exchange (exchange.Field errand phase (plain.Try swap wanted tries))) = ⊥
-WantsNone m = Unit {0}
-
-none_wanted : (memory : ℕ → ℕ) (m : RestMachine) → WantsNone m → IsWanted memory m
-none_wanted memory machine.Idle none = tt
-none_wanted memory (machine.Poll m) none = tt
-none_wanted memory (machine.New m) none = tt
-none_wanted memory (machine.Read m) none = tt
-none_wanted memory (machine.Write m) none = tt
-none_wanted memory (machine.Exchange (exchange.Header errand phase)) none = tt
-none_wanted memory (machine.Exchange (exchange.Field errand phase (plain.Load swap))) none = tt
-none_wanted memory (machine.Exchange (exchange.Field errand phase (plain.Try swap wanted tries))) none = absurd none
-none_wanted memory (machine.Exchange (exchange.Field errand phase (plain.Ended end))) none = tt
-none_wanted memory (machine.Exchange (exchange.Follow errand its)) none = tt
-none_wanted memory (machine.Exchange (exchange.Ended errand end)) none = tt
-none_wanted memory (machine.Retire m) none = tt
-none_wanted memory machine.Retired none = tt
-
--- one whose exchange wants a word can step
-wants_or_goes : (m : RestMachine) → WantsNone m ⊎ (is_ended (asks m) ≡ false)
-wants_or_goes machine.Idle = inl tt
-wants_or_goes (machine.Poll m) = inl tt
-wants_or_goes (machine.New m) = inl tt
-wants_or_goes (machine.Read m) = inl tt
-wants_or_goes (machine.Write m) = inl tt
-wants_or_goes (machine.Exchange (exchange.Header errand phase)) = inl tt
-wants_or_goes (machine.Exchange (exchange.Field errand phase (plain.Load swap))) = inl tt
-wants_or_goes (machine.Exchange (exchange.Field errand phase (plain.Try swap wanted tries))) = inr refl
-wants_or_goes (machine.Exchange (exchange.Field errand phase (plain.Ended end))) = inl tt
-wants_or_goes (machine.Exchange (exchange.Follow errand its)) = inl tt
-wants_or_goes (machine.Exchange (exchange.Ended errand end)) = inl tt
-wants_or_goes (machine.Retire m) = inl tt
-wants_or_goes machine.Retired = inl tt
-
-ended_wants : (m : RestMachine) → is_ended (asks m) ≡ true → WantsNone m
-ended_wants m ended = elim (wants_or_goes m) [ inl none ↦ none | inr goes ↦ absurd (cc (ended, goes)) ]
-
--- ---- the parties that can step, in rising order
+-- ---- numbers, tests and steps
 
 range_rises : (a n : ℕ) → IsNonDecreasing (range_with_len a n)
 range_rises a n i j d before within =
     let small : j < n = omega (arith, within, length-range_with_len a n) in
     omega (arith, before, get_or-range_with_len a n i d (omega (arith, before, small)), get_or-range_with_len a n j d small)
 
-ready_rises : (w : RestState) → IsNonDecreasing (ready w)
-ready_rises w = IsNonDecreasingBy-filter (λ q. q) (can_step kit_at_rest steps_at_rest w) (range_with_len 1 (w.layout.passes + 1)) (range_rises 1 (w.layout.passes + 1))
-
--- a thread that has not ended is one of those that can step
-thread_among : (w : RestState) (q : ℕ) → IsPass w.layout q → has_ended w q ≡ false → Contains (ready w) q
-thread_among w q is on = ready_if kit_at_rest steps_at_rest w q (is.0, omega (arith, is.1)) (thread_steps kit_at_rest steps_at_rest w q is ∙ ap not on)
-
 not_true : (b : Bool) → not b ≡ true → b ≡ false
 not_true true e = absurd cc
 not_true false e = refl
 
--- and one of those that can step has not ended
-thread_runs : (w : RestState) (q : ℕ) → IsPass w.layout q → Contains (ready w) q → has_ended w q ≡ false
-thread_runs w q is among = not_true _ (sym (thread_steps kit_at_rest steps_at_rest w q is) ∙ (ready_is kit_at_rest steps_at_rest w q among).1)
+-- one that wants a word has not ended
+wants_or_asks : (step : Step) → WantsNone step ⊎ (is_ended step ≡ false)
+wants_or_asks (steps.Load at) = inl tt
+wants_or_asks (steps.Store at put) = inl tt
+wants_or_asks (steps.Exchange at want put) = inr refl
+wants_or_asks (steps.Add at by) = inl tt
+wants_or_asks (steps.Sub at by) = inl tt
+wants_or_asks steps.Ended = inl tt
 
--- the turn of one that can step
-turn_takes : (w : RestState) (q : ℕ) → can_step kit_at_rest steps_at_rest w q ≡ true → is_collector kit_at_rest steps_at_rest w q ≡ false → turn w q ≡ taken kit_at_rest steps_at_rest w q
-turn_takes w q can passes = rw (can, passes) refl
+module _ {R W E M : Type 0} (kit : Kit R W E M) (by : Stepping R W E M) (alone : PlaysAlone kit by) where
+  -- until all parties have ended
+  abbrev pub all_to_do : State R W E M → ℕ
+  all_to_do w = sum_by (to_do kit by w) (range_with_len 1 w.layout.passes) + left_of_collector kit by alone w.collector
 
-turn_collects : (w : RestState) (q : ℕ) → can_step kit_at_rest steps_at_rest w q ≡ true → is_collector kit_at_rest steps_at_rest w q ≡ true → turn w q ≡ collected kit_at_rest steps_at_rest w
-turn_collects w q can collects = rw (can, collects) refl
+  abbrev pub ready : State R W E M → List ℕ
+  ready w = ready_of kit by w
 
--- ---- alone
+  abbrev pub turn : State R W E M → ℕ → State R W E M
+  turn w party = turn_of kit by w party
 
--- a thread's exchange wants no word, or it is the lowest that can step, and its exchange finds what it wants
-abbrev pub IsAlone : RestState → ℕ → Type 0
-IsAlone w q = WantsNone (machine_at w q) ⊎ ((q ≡ lowest (ready w)) × IsWanted (reading w.words) (machine_at w q))
+  -- whether a thread has no step left
+  abbrev pub has_ended : State R W E M → ℕ → Bool
+  has_ended w party = is_ended (asks kit by (machine_at w party))
 
--- No exchange but that of the lowest thread that can step wants a word; and as long as a thread runs, the collector has not begun.
-pub record IsSolo (cycles : ℕ) (w : RestState) : Type 0 where
-  pub threads : (q : ℕ) → IsPass w.layout q → IsAlone w q
-  pub collector : (w.collector ≡ collector_of kit_at_rest w.layout cycles) ⊎ ((q : ℕ) → IsPass w.layout q → has_ended w q ≡ true)
+  -- ---- what nobody else's steps disturb
 
-alone_wants : (w : RestState) (q : ℕ) → IsAlone w q → IsWanted (reading w.words) (machine_at w q)
-alone_wants w q (inl none) = none_wanted (reading w.words) (machine_at w q) none
-alone_wants w q (inr goes) = goes.1
+  -- no exchange of a field wants a word
+  abbrev pub WantsNoWord : PassMachine R W E → Type 0
+  WantsNoWord (machine.Exchange m) = WantsNone (by.exchange_asks m)
+  WantsNoWord m = Unit {0}
 
-other_alone : (w : RestState) (q : ℕ) → q ≢ lowest (ready w) → IsAlone w q → WantsNone (machine_at w q)
-other_alone w q apart (inl none) = none
-other_alone w q apart (inr goes) = absurd (apart goes.0)
+  none_wanted : (memory : ℕ → ℕ) (m : PassMachine R W E) → WantsNoWord m → IsWanted kit by memory m
+  none_wanted memory machine.Idle none = tt
+  none_wanted memory (machine.Poll m) none = tt
+  none_wanted memory (machine.New m) none = tt
+  none_wanted memory (machine.Read m) none = tt
+  none_wanted memory (machine.Write m) none = tt
+  none_wanted memory (machine.Exchange m) none = none_finds memory (by.exchange_asks m) none
+  none_wanted memory (machine.Retire m) none = tt
+  none_wanted memory machine.Retired none = tt
 
--- there is less to do, and the next step is taken alone too
-record Next (cycles : ℕ) (w new : RestState) : Type 0 where
-  solo : IsSolo cycles new
-  less : all_to_do new < all_to_do w
+  -- one whose exchange wants a word can step
+  wants_or_goes : (m : PassMachine R W E) → WantsNoWord m ⊎ (is_ended (asks kit by m) ≡ false)
+  wants_or_goes machine.Idle = inl tt
+  wants_or_goes (machine.Poll m) = inl tt
+  wants_or_goes (machine.New m) = inl tt
+  wants_or_goes (machine.Read m) = inl tt
+  wants_or_goes (machine.Write m) = inl tt
+  wants_or_goes (machine.Exchange m) = wants_or_asks (by.exchange_asks m)
+  wants_or_goes (machine.Retire m) = inl tt
+  wants_or_goes machine.Retired = inl tt
 
-module _ (cycles : ℕ) (w : RestState) (lw : Lawful kit_at_rest w) (solo : IsSolo cycles w) (on : is_over kit_at_rest steps_at_rest w ≡ false) where
-  -- the party that takes the step
-  abbrev first : ℕ
-  first = lowest (ready w)
+  ended_wants : (m : PassMachine R W E) → is_ended (asks kit by m) ≡ true → WantsNoWord m
+  ended_wants m ended = elim (wants_or_goes m) [ inl none ↦ none | inr goes ↦ absurd (cc (ended, goes)) ]
 
-  among : Contains (ready w) first
-  among = lowest_is_ready (ready w) (some_are (ready w) on)
+  -- ---- the parties that can step, in rising order
 
-  is_party : IsParty w.layout first
-  is_party = ready_is_party kit_at_rest steps_at_rest w first among
+  ready_rises : (w : State R W E M) → IsNonDecreasing (ready w)
+  ready_rises w = IsNonDecreasingBy-filter (λ q. q) (can_step kit by w) (range_with_len 1 (w.layout.passes + 1)) (range_rises 1 (w.layout.passes + 1))
 
-  can : can_step kit_at_rest steps_at_rest w first ≡ true
-  can = (ready_is kit_at_rest steps_at_rest w first among).1
+  -- a thread that has not ended is one of those that can step
+  thread_among : (w : State R W E M) (q : ℕ) → IsPass w.layout q → has_ended w q ≡ false → Contains (ready w) q
+  thread_among w q is on = ready_if kit by w q (is.0, omega (arith, is.1)) (thread_steps kit by w q is ∙ ap not on)
 
-  -- ---- a thread
+  -- and one of those that can step has not ended
+  thread_runs : (w : State R W E M) (q : ℕ) → IsPass w.layout q → Contains (ready w) q → has_ended w q ≡ false
+  thread_runs w q is among = not_true _ (sym (thread_steps kit by w q is) ∙ (ready_is kit by w q among).1)
 
-  module _ (is_pass : IsPass w.layout first) where
-    abbrev new : RestState
-    new = taken kit_at_rest steps_at_rest w first
+  -- the turn of one that can step
+  turn_takes : (w : State R W E M) (q : ℕ) → can_step kit by w q ≡ true → is_collector kit by w q ≡ false → turn w q ≡ taken kit by w q
+  turn_takes w q can passes = rw (can, passes) refl
 
-    runs : has_ended w first ≡ false
-    runs = thread_runs w first is_pass among
+  turn_collects : (w : State R W E M) (q : ℕ) → can_step kit by w q ≡ true → is_collector kit by w q ≡ true → turn w q ≡ collected kit by w
+  turn_collects w q can collects = rw (can, collects) refl
 
-    -- the collector has not begun
-    waits : w.collector ≡ collector_of kit_at_rest w.layout cycles
-    waits = elim solo.collector [ inl start ↦ start | inr idle ↦ absurd (cc (idle first is_pass, runs)) ]
+  -- ---- alone
 
-    goes : Goes w first (left (machine_at w first)) new
-    goes =
-        let asks_on : asks_at kit_at_rest steps_at_rest w first ≢ Ended = is_ended-false (asks_at kit_at_rest steps_at_rest w first) runs in
-        let threads = lw.script.threads in
-        let there : IsThere w first = record { least = is_pass.0; passes = omega (arith, is_pass.1, lw.passes); commands = omega (arith, is_pass.1, threads); answers = omega (arith, is_pass.1, threads, lw.room.threads) } in
-        turn_goes w first there asks_on (unhindered w lw first is_pass cycles waits asks_on) (alone_wants w first (solo.threads first is_pass))
+  -- a thread's exchange wants no word, or it is the lowest that can step, and its exchange finds what it wants
+  abbrev pub IsAlone : State R W E M → ℕ → Type 0
+  IsAlone w q = WantsNoWord (machine_at w q) ⊎ ((q ≡ lowest (ready w)) × IsWanted kit by (reading w.words) (machine_at w q))
 
-    -- it stays the lowest, as long as it can step
-    still_lowest : has_ended new first ≡ false → first ≡ lowest (ready new)
-    still_lowest goes_on =
-        let same : new.layout.passes ≡ w.layout.passes = ap (λ (l : Sizes). l.passes) goes.layout in
-        let its = thread_among new first (is_pass.0, omega (arith, is_pass.1, same)) goes_on in
-        let q : ℕ = lowest (ready new) in
-        let next_among : Contains (ready new) q = lowest_is_ready (ready new) (omega (arith, its.1)) in
-        let below : q ≤ first = lowest_is_least (ready new) first (ready_rises new) its in
-        elim (eqb_tells q first) [
-          | inl equal ↦ sym equal.1
-          | inr apart ↦
-              let least : 1 ≤ q = (ready_is_party kit_at_rest steps_at_rest new q next_among).0 in
-              let is : IsPass w.layout q = (least, omega (arith, below, is_pass.1)) in
-              let still : has_ended new q ≡ false = thread_runs new q (least, omega (arith, below, is_pass.1, same)) next_among in
-              let was : has_ended w q ≡ false = ap (λ (x : RestRecord). is_ended (asks x.machine)) (sym (goes.passes q least apart.1)) ∙ still in
-              let above : first ≤ q = lowest_is_least (ready w) q (ready_rises w) (thread_among w q is was) in
-              omega (arith, above, below)
-        ]
+  -- No exchange but that of the lowest thread that can step wants a word; and as long as a thread runs, the collector has not begun.
+  pub record IsSolo (cycles : ℕ) (w : State R W E M) : Type 0 where
+    pub threads : (q : ℕ) → IsPass w.layout q → IsAlone w q
+    pub collector : (w.collector ≡ collector_of kit w.layout cycles) ⊎ ((q : ℕ) → IsPass w.layout q → has_ended w q ≡ true)
 
-    its_alone : WantsNone (machine_at new first) ⊎ (has_ended new first ≡ false) → IsAlone new first
-    its_alone (inl none) = inl none
-    its_alone (inr goes_on) = inr (still_lowest goes_on, goes.wants)
+  alone_wants : (w : State R W E M) (q : ℕ) → IsAlone w q → IsWanted kit by (reading w.words) (machine_at w q)
+  alone_wants w q (inl none) = none_wanted (reading w.words) (machine_at w q) none
+  alone_wants w q (inr goes) = goes.1
 
-    each_alone : (q : ℕ) → IsPass new.layout q → IsAlone new q
-    each_alone q other =
-        let is : IsPass w.layout q = subst (λ (l : Sizes). IsPass l q) goes.layout other in
-        elim (eqb_tells q first) [
-          | inl same ↦ subst (λ (x : ℕ). IsAlone new x) (sym same.1) (its_alone (wants_or_goes (machine_at new first)))
-          | inr apart ↦ inl (subst (λ (x : RestRecord). WantsNone x.machine) (sym (goes.passes q is.0 apart.1)) (other_alone w q apart.1 (solo.threads q is)))
-        ]
+  other_alone : (w : State R W E M) (q : ℕ) → q ≢ lowest (ready w) → IsAlone w q → WantsNoWord (machine_at w q)
+  other_alone w q apart (inl none) = none
+  other_alone w q apart (inr goes) = absurd (apart goes.0)
 
-    -- another thread has as much to do as before
-    other_to_do : (q : ℕ) → 1 ≤ q → q ≢ first → to_do new q ≡ to_do w q
-    other_to_do q least apart =
-        let machine : left (machine_at new q) ≡ left (machine_at w q) = ap (λ (x : RestRecord). left x.machine) (goes.passes q least apart) in
-        let count : answered new q ≡ answered w q = ap length (goes.answers q least apart) in
-        let size : length (commands_at new.commands q) ≡ length (commands_at w.commands q) = ap (λ (x : List (List Command)). length (commands_at x q)) goes.commands in
-        ap (λ k. left_with k (answered new q) (left (machine_at new q))) size ∙ (ap (λ k. left_with (length (commands_at w.commands q)) k (left (machine_at new q))) count
-        ∙ ap (λ k. left_with (length (commands_at w.commands q)) (answered w q) k) machine)
+  -- there is less to do, and the next step is taken alone too
+  record Next (cycles : ℕ) (w new : State R W E M) : Type 0 where
+    solo : IsSolo cycles new
+    less : all_to_do new < all_to_do w
 
-    each_to_do : (q : ℕ) → 1 ≤ q → to_do new q ≤ to_do w q
-    each_to_do q least = elim (eqb_tells q first) [
-      | inl same ↦ subst (λ (x : ℕ). to_do new x ≤ to_do w x) (sym same.1) (let less = goes.less in omega (arith, less))
-      | inr apart ↦ omega (arith, other_to_do q least apart.1)
-    ]
+  module _ (laws : Laws kit by) (cycles : ℕ) (w : State R W E M) (lw : Lawful kit w) (solo : IsSolo cycles w) (on : is_over kit by w ≡ false) where
+    -- the party that takes the step
+    abbrev first : ℕ
+    first = lowest (ready w)
 
-    each_in_range : (n i : ℕ) → i < n → to_do new (get_or (range_with_len 1 n) i 0) ≤ to_do w (get_or (range_with_len 1 n) i 0)
-    each_in_range n i within = each_to_do (get_or (range_with_len 1 n) i 0) (omega (arith, get_or-range_with_len 1 n i 0 within))
+    among : Contains (ready w) first
+    among = lowest_is_ready (ready w) (some_are (ready w) on)
 
-    -- all threads have less to do
-    threads_less : sum_by (to_do new) (range_with_len 1 w.layout.passes) < sum_by (to_do w) (range_with_len 1 w.layout.passes)
-    threads_less =
-        let n : ℕ = w.layout.passes in
-        let long : length (range_with_len 1 n) ≡ n = length-range_with_len 1 n in
-        let place : first - 1 < n = omega (arith, is_pass.0, is_pass.1) in
-        let here : get_or (range_with_len 1 n) (first - 1) 0 ≡ first = get_or-range_with_len 1 n (first - 1) 0 place ∙ omega (arith, is_pass.0) in
-        let its = subst (λ (x : ℕ). to_do new x < to_do w x) (sym here) goes.less in
-        sum_by-lt (to_do new) (to_do w) 0 0 (range_with_len 1 n) (range_with_len 1 n) (first - 1) refl (λ i within. each_in_range n i (omega (arith, within, long))) (omega (arith, long, place)) its
+    is_party : IsParty w.layout first
+    is_party = ready_is_party kit by w first among
 
-    thread_less : all_to_do new < all_to_do w
-    thread_less =
-        let same : sum_by (to_do new) (range_with_len 1 new.layout.passes) ≡ sum_by (to_do new) (range_with_len 1 w.layout.passes) =
-        ap (λ (l : Sizes). sum_by (to_do new) (range_with_len 1 l.passes)) goes.layout in
-        omega (arith, same, threads_less, ap left_of_collector goes.collector)
+    can : can_step kit by w first ≡ true
+    can = (ready_is kit by w first among).1
 
-    thread_next : Next cycles w (turn w first)
-    thread_next =
-        subst (Next cycles w) (sym (turn_takes w first can (le-ltb w.layout.passes first is_pass.1))) (record {
-          solo = record { threads = each_alone; collector = inl (goes.collector ∙ waits ∙ ap (λ (l : Sizes). collector_of kit_at_rest l cycles) (sym goes.layout)) };
-          less = thread_less;
-        })
+    -- ---- a thread
 
-  -- ---- the collector
+    module _ (is_pass : IsPass w.layout first) where
+      abbrev new : State R W E M
+      new = taken kit by w first
 
-  module _ (above : w.layout.passes < first) where
-    collects : is_collector kit_at_rest steps_at_rest w first ≡ true
-    collects = lt-ltb w.layout.passes first above
+      runs : has_ended w first ≡ false
+      runs = thread_runs w first is_pass among
 
-    -- all threads have ended
-    all_ended : (q : ℕ) → IsPass w.layout q → (b : Bool) → has_ended w q ≡ b → b ≡ true
-    all_ended q is true ended = refl
-    all_ended q is false runs =
-        let most : first ≤ q = lowest_is_least (ready w) q (ready_rises w) (thread_among w q is runs) in
-        absurd (omega (arith, most, above, is.1))
+      -- the collector has not begun
+      waits : w.collector ≡ collector_of kit w.layout cycles
+      waits = elim solo.collector [ inl start ↦ start | inr idle ↦ absurd (cc (idle first is_pass, runs)) ]
 
-    ended_is : (q : ℕ) → IsPass w.layout q → has_ended w q ≡ true
-    ended_is q is = all_ended q is (has_ended w q) refl
+      goes : Goes kit by w first (left kit by (machine_at w first)) new
+      goes =
+          let asks_on : asks_at kit by w first ≢ Ended = is_ended-false (asks_at kit by w first) runs in
+          let threads = lw.script.threads in
+          let there : IsThere w first = record { least = is_pass.0; passes = omega (arith, is_pass.1, lw.passes); commands = omega (arith, is_pass.1, threads); answers = omega (arith, is_pass.1, threads, lw.room.threads) } in
+          turn_goes kit by alone w first there asks_on (unhindered kit by w lw first is_pass cycles waits asks_on) (alone_wants w first (solo.threads first is_pass))
 
-    -- and their acknowledgements say so
-    acks_ended : (q : ℕ) → IsPass w.layout q → reading w.words (ack_at q) ≡ retired_word
-    acks_ended q is =
-        let said = acknowledged kit_at_rest w lw q is in
-        let retired = retired_at_end kit_at_rest steps_at_rest laws_at_rest w lw q is (is_ended-true (asks (machine_at w q)) (ended_is q is)) in
-        sym said.word_is ∙ said.retired.1 retired
+      -- it stays the lowest, as long as it can step
+      still_lowest : has_ended new first ≡ false → first ≡ lowest (ready new)
+      still_lowest goes_on =
+          let same : new.layout.passes ≡ w.layout.passes = ap (λ (l : Sizes). l.passes) goes.layout in
+          let its = thread_among new first (is_pass.0, omega (arith, is_pass.1, same)) goes_on in
+          let q : ℕ = lowest (ready new) in
+          let next_among : Contains (ready new) q = lowest_is_ready (ready new) (omega (arith, its.1)) in
+          let below : q ≤ first = lowest_is_least (ready new) first (ready_rises new) its in
+          elim (eqb_tells q first) [
+            | inl equal ↦ sym equal.1
+            | inr apart ↦
+                let least : 1 ≤ q = (ready_is_party kit by new q next_among).0 in
+                let is : IsPass w.layout q = (least, omega (arith, below, is_pass.1)) in
+                let still : has_ended new q ≡ false = thread_runs new q (least, omega (arith, below, is_pass.1, same)) next_among in
+                let was : has_ended w q ≡ false = ap (λ (x : PassRecord R W E). is_ended (asks kit by x.machine)) (sym (goes.passes q least apart.1)) ∙ still in
+                let above : first ≤ q = lowest_is_least (ready w) q (ready_rises w) (thread_among w q is was) in
+                omega (arith, above, below)
+          ]
 
-    collector_on : collector_asks kit_at_rest steps_at_rest w ≢ Ended
-    collector_on = is_ended-false (collector_asks kit_at_rest steps_at_rest w) (not_true _ (rw collects at can))
+      its_alone : WantsNoWord (machine_at new first) ⊎ (has_ended new first ≡ false) → IsAlone new first
+      its_alone (inl none) = inl none
+      its_alone (inr goes_on) = inr (still_lowest goes_on, goes.wants)
 
-    collector_less : all_to_do (collected kit_at_rest steps_at_rest w) < all_to_do w
-    collector_less =
-        let its = collector_record kit_at_rest w lw in
-        let plays = subst (λ k. IsCollector w.layout kinds.AtRest its.cycles k) (sym its.machine) its.collects in
-        let falls = collector_falls w.layout its.cycles w.words acks_ended w.collector plays collector_on in
-        omega (arith, falls)
+      each_alone : (q : ℕ) → IsPass new.layout q → IsAlone new q
+      each_alone q other =
+          let is : IsPass w.layout q = subst (λ (l : Sizes). IsPass l q) goes.layout other in
+          elim (eqb_tells q first) [
+            | inl same ↦ subst (λ (x : ℕ). IsAlone new x) (sym same.1) (its_alone (wants_or_goes (machine_at new first)))
+            | inr apart ↦ inl (subst (λ (x : PassRecord R W E). WantsNoWord x.machine) (sym (goes.passes q is.0 apart.1)) (other_alone w q apart.1 (solo.threads q is)))
+          ]
 
-    collector_next : Next cycles w (turn w first)
-    collector_next = subst (Next cycles w) (sym (turn_collects w first can collects)) (record {
-      solo = record { threads = λ q is. inl (ended_wants (machine_at w q) (ended_is q is)); collector = inr ended_is };
-      less = collector_less;
-    })
+      -- another thread has as much to do as before
+      other_to_do : (q : ℕ) → 1 ≤ q → q ≢ first → to_do kit by new q ≡ to_do kit by w q
+      other_to_do q least apart =
+          let machine : left kit by (machine_at new q) ≡ left kit by (machine_at w q) = ap (λ (x : PassRecord R W E). left kit by x.machine) (goes.passes q least apart) in
+          let count : answered new q ≡ answered w q = ap length (goes.answers q least apart) in
+          let size : length (commands_at new.commands q) ≡ length (commands_at w.commands q) = ap (λ (x : List (List Command)). length (commands_at x q)) goes.commands in
+          ap (λ k. left_with k (answered new q) (left kit by (machine_at new q))) size ∙ (ap (λ k. left_with (length (commands_at w.commands q)) k (left kit by (machine_at new q))) count
+          ∙ ap (λ k. left_with (length (commands_at w.commands q)) (answered w q) k) machine)
 
-  next_is : Next cycles w (turn w first)
-  next_is = elim (cases_lt w.layout.passes first) [ inl above ↦ collector_next above | inr within ↦ thread_next (is_party.0, within) ]
+      each_to_do : (q : ℕ) → 1 ≤ q → to_do kit by new q ≤ to_do kit by w q
+      each_to_do q least = elim (eqb_tells q first) [
+        | inl same ↦ subst (λ (x : ℕ). to_do kit by new x ≤ to_do kit by w x) (sym same.1) (let less = goes.less in omega (arith, less))
+        | inr apart ↦ omega (arith, other_to_do q least apart.1)
+      ]
 
--- with as many turns as there is to do, all end
-none_ends : (cycles : ℕ) (w : RestState) → Lawful kit_at_rest w → IsSolo cycles w → all_to_do w ≤ 0 → (b : Bool) → is_over kit_at_rest steps_at_rest w ≡ b → b ≡ true
-none_ends cycles w lw solo few true over = refl
-none_ends cycles w lw solo few false on = let next = next_is cycles w lw solo on in absurd (omega (arith, next.less, few))
+      each_in_range : (n i : ℕ) → i < n → to_do kit by new (get_or (range_with_len 1 n) i 0) ≤ to_do kit by w (get_or (range_with_len 1 n) i 0)
+      each_in_range n i within = each_to_do (get_or (range_with_len 1 n) i 0) (omega (arith, get_or-range_with_len 1 n i 0 within))
 
-abbrev pub turns : ℕ → RestState → RestState
-turns n w = turns_of kit_at_rest steps_at_rest n choosers.Solo w
+      -- all threads have less to do
+      threads_less : sum_by (to_do kit by new) (range_with_len 1 w.layout.passes) < sum_by (to_do kit by w) (range_with_len 1 w.layout.passes)
+      threads_less =
+          let n : ℕ = w.layout.passes in
+          let long : length (range_with_len 1 n) ≡ n = length-range_with_len 1 n in
+          let place : first - 1 < n = omega (arith, is_pass.0, is_pass.1) in
+          let here : get_or (range_with_len 1 n) (first - 1) 0 ≡ first = get_or-range_with_len 1 n (first - 1) 0 place ∙ omega (arith, is_pass.0) in
+          let its = subst (λ (x : ℕ). to_do kit by new x < to_do kit by w x) (sym here) goes.less in
+          sum_by-lt (to_do kit by new) (to_do kit by w) 0 0 (range_with_len 1 n) (range_with_len 1 n) (first - 1) refl (λ i within. each_in_range n i (omega (arith, within, long))) (omega (arith, long, place)) its
 
-next_ends : (cycles n : ℕ) (w : RestState) → Lawful kit_at_rest w → IsSolo cycles w → all_to_do w ≤ suc n
-    → ((x : RestState) → Lawful kit_at_rest x → IsSolo cycles x → all_to_do x ≤ n → is_over kit_at_rest steps_at_rest (turns n x) ≡ true)
-    → (b : Bool) → is_over kit_at_rest steps_at_rest w ≡ b → is_over kit_at_rest steps_at_rest (cond b w (turns n (turn w (lowest (ready w))))) ≡ true
-next_ends cycles n w lw solo few rest true over = over
-next_ends cycles n w lw solo few rest false on =
-    let next = next_is cycles w lw solo on in
-    let lawful = turn_keeps kit_at_rest steps_at_rest laws_at_rest w lw (lowest (ready w)) (is_party cycles w lw solo on) in
-    rest (turn w (lowest (ready w))) lawful next.solo (omega (arith, next.less, few))
+      thread_less : all_to_do new < all_to_do w
+      thread_less =
+          let same : sum_by (to_do kit by new) (range_with_len 1 new.layout.passes) ≡ sum_by (to_do kit by new) (range_with_len 1 w.layout.passes) =
+          ap (λ (l : Sizes). sum_by (to_do kit by new) (range_with_len 1 l.passes)) goes.layout in
+          omega (arith, same, threads_less, ap (left_of_collector kit by alone) goes.collector)
 
-pub turns_end : (cycles n : ℕ) (w : RestState) → Lawful kit_at_rest w → IsSolo cycles w → all_to_do w ≤ n → is_over kit_at_rest steps_at_rest (turns n w) ≡ true
-turns_end cycles zero w lw solo few = none_ends cycles w lw solo few (is_over kit_at_rest steps_at_rest w) refl
-turns_end cycles (suc n) w lw solo few = next_ends cycles n w lw solo few (λ x h alone less. turns_end cycles n x h alone less) (is_over kit_at_rest steps_at_rest w) refl
+      thread_next : Next cycles w (turn w first)
+      thread_next =
+          subst (Next cycles w) (sym (turn_takes w first can (le-ltb w.layout.passes first is_pass.1))) (record {
+            solo = record { threads = each_alone; collector = inl (goes.collector ∙ waits ∙ ap (λ (l : Sizes). collector_of kit l cycles) (sym goes.layout)) };
+            less = thread_less;
+          })
+
+    -- ---- the collector
+
+    module _ (above : w.layout.passes < first) where
+      collects : is_collector kit by w first ≡ true
+      collects = lt-ltb w.layout.passes first above
+
+      -- all threads have ended
+      all_ended : (q : ℕ) → IsPass w.layout q → (b : Bool) → has_ended w q ≡ b → b ≡ true
+      all_ended q is true ended = refl
+      all_ended q is false runs =
+          let most : first ≤ q = lowest_is_least (ready w) q (ready_rises w) (thread_among w q is runs) in
+          absurd (omega (arith, most, above, is.1))
+
+      ended_is : (q : ℕ) → IsPass w.layout q → has_ended w q ≡ true
+      ended_is q is = all_ended q is (has_ended w q) refl
+
+      -- and their acknowledgements say so
+      acks_ended : (q : ℕ) → IsPass w.layout q → reading w.words (ack_at q) ≡ retired_word
+      acks_ended q is =
+          let said = acknowledged kit w lw q is in
+          let retired = retired_at_end kit by laws w lw q is (is_ended-true (asks kit by (machine_at w q)) (ended_is q is)) in
+          sym said.word_is ∙ said.retired.1 retired
+
+      collector_on : collector_asks kit by w ≢ Ended
+      collector_on = is_ended-false (collector_asks kit by w) (not_true _ (rw collects at can))
+
+      collector_less : all_to_do (collected kit by w) < all_to_do w
+      collector_less =
+          let its = collector_record kit w lw in
+          let plays = subst (λ k. IsCollector w.layout kit.kind its.cycles k) (sym its.machine) its.collects in
+          let falls = collector_falls kit by alone w.layout lw.records.layout its.cycles w.words acks_ended w.collector plays collector_on in
+          omega (arith, falls)
+
+      collector_next : Next cycles w (turn w first)
+      collector_next = subst (Next cycles w) (sym (turn_collects w first can collects)) (record {
+        solo = record { threads = λ q is. inl (ended_wants (machine_at w q) (ended_is q is)); collector = inr ended_is };
+        less = collector_less;
+      })
+
+    next_is : Next cycles w (turn w first)
+    next_is = elim (cases_lt w.layout.passes first) [ inl above ↦ collector_next above | inr within ↦ thread_next (is_party.0, within) ]
+
+  -- with as many turns as there is to do, all end
+  abbrev pub turns : ℕ → State R W E M → State R W E M
+  turns n w = turns_of kit by n choosers.Solo w
+
+  module _ (laws : Laws kit by) (cycles : ℕ) where
+    none_ends : (w : State R W E M) → Lawful kit w → IsSolo cycles w → all_to_do w ≤ 0 → (b : Bool) → is_over kit by w ≡ b → b ≡ true
+    none_ends w lw solo few true over = refl
+    none_ends w lw solo few false on = let next = next_is laws cycles w lw solo on in absurd (omega (arith, next.less, few))
+
+    next_ends : (n : ℕ) (w : State R W E M) → Lawful kit w → IsSolo cycles w → all_to_do w ≤ suc n
+        → ((x : State R W E M) → Lawful kit x → IsSolo cycles x → all_to_do x ≤ n → is_over kit by (turns n x) ≡ true)
+        → (b : Bool) → is_over kit by w ≡ b → is_over kit by (cond b w (turns n (turn w (lowest (ready w))))) ≡ true
+    next_ends n w lw solo few rest true over = over
+    next_ends n w lw solo few rest false on =
+        let next = next_is laws cycles w lw solo on in
+        let lawful = turn_keeps kit by laws w lw (lowest (ready w)) (is_party laws cycles w lw solo on) in
+        rest (turn w (lowest (ready w))) lawful next.solo (omega (arith, next.less, few))
+
+    pub turns_end : (n : ℕ) (w : State R W E M) → Lawful kit w → IsSolo cycles w → all_to_do w ≤ n → is_over kit by (turns n w) ≡ true
+    turns_end zero w lw solo few = none_ends w lw solo few (is_over kit by w) refl
+    turns_end (suc n) w lw solo few = next_ends n w lw solo few (λ x h its less. turns_end n x h its less) (is_over kit by w) refl

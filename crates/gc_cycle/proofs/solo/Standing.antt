@@ -1,4 +1,4 @@
--- Where a thread over the copier at rest stands while the collector has not begun.
+-- Where a thread stands while the collector has not begun.
 use Rattle.std.proofs.Common.{◌≡◌, ◌≢◌, ℕ, true, List, Option, Some, None, refl, sym, ap, ◌∙◌, subst, arith}
 use Rattle.call_steps.specs.declared.step.Step.TheVariants as steps
 use Rattle.call_steps.specs.StepLaws.{reading}
@@ -12,25 +12,18 @@ use Rattle.space_reclaim.specs.RegionWords.{word_of_region}
 use Rattle.space_reclaim.specs.OwnRegions.{IsOwn, first_own}
 use Rattle.space_reclaim.specs.Claims.{round_of}
 use Rattle.handshakes.specs.declared.poll.PollMachine.TheVariants as poll
-use Rattle.handshakes.specs.declared.phase_word.Phase.TheVariants.{Free}
-use Rattle.handshakes.specs.declared.phase_word.PhaseWord.{PhaseWord}
-use Rattle.handshakes.specs.PhaseWords.{phase_word_at, retired_word}
+use Rattle.handshakes.specs.PhaseWords.{retired_word}
 use Rattle.barriers.specs.declared.new_object.NewPlan.{NewPlan}
 use Rattle.barriers.specs.declared.new_object.NewMachine.{NewMachine}
 use Rattle.barriers.specs.declared.new_object.NewMachine.TheVariants as make
-use Rattle.barriers.specs.declared.read.ReadMachine.{ReadMachine}
-use Rattle.barriers.specs.declared.read.ReadMachine.TheVariants as read
-use Rattle.barriers.specs.declared.write.WriteMachine.{WriteMachine}
-use Rattle.barriers.specs.declared.exchange.ExchangeMachine.{ExchangeMachine}
-use Rattle.barriers.specs.declared.exchange.ExchangeMachine.TheVariants as exchange
-use Rattle.barriers.specs.declared.plain_exchange.PlainExchange.TheVariants as plain
+use Rattle.barriers.specs.declared.pass.PassMachine.{PassMachine}
 use Rattle.barriers.specs.declared.pass.PassMachine.TheVariants as machine
+use Rattle.barriers.specs.declared.pass.PassRecord.{PassRecord}
 use Rattle.barriers.specs.declared.room.Room.{Room}
+use Rattle.barriers.specs.Kits.{Kit, Stepping}
 use Rattle.barriers.specs.Spaces.{Space}
 use Rattle.barriers.specs.Says.{Notices, Says}
 use Rattle.barriers.specs.Cycles.{Cycle}
-use Rattle.at_rest.specs.Knowing.{kit_at_rest}
-use Rattle.at_rest.specs.Rests.{steps_at_rest}
 use Rattle.lawful_records.specs.declared.records.PassKnown.{PassKnown}
 use Rattle.lawful_records.specs.Collectors.{collector_of, announced_of, passed_of}
 use Rattle.lawful_records.specs.Cycling.{cycle_of}
@@ -38,131 +31,125 @@ use Rattle.lawful_records.specs.Making.{IsRoom, has_room}
 use Rattle.lawful_records.specs.Records.{view_by, room_by}
 use Rattle.lawful_records.specs.LawfulRecords.{IsMachine}
 use Rattle.lawful_records.proofs.turns.Stepping.{own_there}
-use Rattle.gc_cycle.specs.Worlds.{pass_at, asks_at}
+use Rattle.gc_cycle.specs.Worlds.{State, pass_at, asks_at}
 use Rattle.gc_cycle.specs.Lawful.{Lawful, IsAt, IsAfter, IsAtCommand, IsMakingOf, known_in, no_room}
 use Rattle.gc_cycle.proofs.Acknowledging.{pass_record, collector_record, acknowledged}
-use Rattle.gc_cycle.proofs.solo.CollectorEnds.{passed_from_start, free_from_start}
-use Rattle.gc_cycle.proofs.solo.Left.{RestMachine, IsUnhindered, asks}
-use Rattle.gc_cycle.proofs.solo.Turns.{RestState, RestRecord, machine_at}
+use Rattle.gc_cycle.proofs.solo.CollectorEnds.{passed_from_start}
+use Rattle.gc_cycle.proofs.solo.Left.{IsUnhindered, asks}
+use Rattle.gc_cycle.proofs.solo.Turns.{machine_at}
 
 -- ---- a thread that makes an object
 
--- a pass that looks at a region or claims one has none yet, and it is at the first of its own
-abbrev IsUnclaimed : Sizes → RestRecord → RestMachine → Type 0
-IsUnclaimed l r (machine.New (make.Look plan round)) = (r.room ≡ no_room) × (round ≡ round_of l r.view.pass None)
-IsUnclaimed l r (machine.New (make.Claim plan round)) = (r.room ≡ no_room) × (round ≡ round_of l r.view.pass None) × (plan.old_at ≡ None)
-IsUnclaimed l r (machine.New (make.Fill at placement)) = ⊥
-IsUnclaimed l r m = Unit {0}
+module _ {R W E : Type 0} where
+  -- a pass that looks at a region or claims one has none yet, and it is at the first of its own
+  abbrev IsUnclaimed : Sizes → PassRecord R W E → PassMachine R W E → Type 0
+  IsUnclaimed l r (machine.New (make.Look plan round)) = (r.room ≡ no_room) × (round ≡ round_of l r.view.pass None)
+  IsUnclaimed l r (machine.New (make.Claim plan round)) = (r.room ≡ no_room) × (round ≡ round_of l r.view.pass None) × (plan.old_at ≡ None)
+  IsUnclaimed l r (machine.New (make.Fill at placement)) = ⊥
+  IsUnclaimed l r m = Unit {0}
 
-making : (l : Sizes) (r : RestRecord) (len : ℕ) (m : NewMachine) → IsMakingOf l r.view.pass r.room r.made len m → IsUnclaimed l r (machine.New m)
-making l r len (make.Look plan round) is = (is.0, is.2)
-making l r len (make.Claim plan round) is = (is.0, is.2, ap (λ (x : NewPlan). x.old_at) is.1)
-making l r len (make.Fill at placement) is = absurd is
-making l r len (make.Header placement) is = tt
-making l r len (make.Ended end) is = tt
+  making : (l : Sizes) (r : PassRecord R W E) (len : ℕ) (m : NewMachine) → IsMakingOf l r.view.pass r.room r.made len m → IsUnclaimed l r (machine.New m)
+  making l r len (make.Look plan round) is = (is.0, is.2)
+  making l r len (make.Claim plan round) is = (is.0, is.2, ap (λ (x : NewPlan). x.old_at) is.1)
+  making l r len (make.Fill at placement) is = absurd is
+  making l r len (make.Header placement) is = tt
+  making l r len (make.Ended end) is = tt
 
-making_at : (l : Sizes) (r : RestRecord) (c : Command) (m : NewMachine) → IsAt kit_at_rest l r c (machine.New m) → IsUnclaimed l r (machine.New m)
-making_at l r (commands.New dst len) m at = making l r len m at.0
-making_at l r (commands.Get dst obj field) m at = absurd at
-making_at l r (commands.Put obj field what) m at = absurd at
-making_at l r (commands.Cas dst obj field expected value) m at = absurd at
-making_at l r (commands.Copy dst src) m at = absurd at
-making_at l r (commands.Drop dst) m at = absurd at
-making_at l r commands.Poll m at = absurd at
+module _ {R W E M : Type 0} (kit : Kit R W E M) where
+  making_at : (l : Sizes) (r : PassRecord R W E) (c : Command) (m : NewMachine) → IsAt kit l r c (machine.New m) → IsUnclaimed l r (machine.New m)
+  making_at l r (commands.New dst len) m at = making l r len m at.0
+  making_at l r (commands.Get dst obj field) m at = absurd at
+  making_at l r (commands.Put obj field what) m at = absurd at
+  making_at l r (commands.Cas dst obj field expected value) m at = absurd at
+  making_at l r (commands.Copy dst src) m at = absurd at
+  making_at l r (commands.Drop dst) m at = absurd at
+  making_at l r commands.Poll m at = absurd at
 
-unclaimed_at : (l : Sizes) (r : RestRecord) (c : Command) (m : RestMachine) → IsAt kit_at_rest l r c m → IsUnclaimed l r m
-unclaimed_at l r c machine.Idle at = tt
-unclaimed_at l r c (machine.Poll m) at = tt
-unclaimed_at l r c (machine.New m) at = making_at l r c m at
-unclaimed_at l r c (machine.Read m) at = tt
-unclaimed_at l r c (machine.Write m) at = tt
-unclaimed_at l r c (machine.Exchange m) at = tt
-unclaimed_at l r c (machine.Retire m) at = tt
-unclaimed_at l r c machine.Retired at = tt
+  unclaimed_at : (l : Sizes) (r : PassRecord R W E) (c : Command) (m : PassMachine R W E) → IsAt kit l r c m → IsUnclaimed l r m
+  unclaimed_at l r c machine.Idle at = tt
+  unclaimed_at l r c (machine.Poll m) at = tt
+  unclaimed_at l r c (machine.New m) at = making_at l r c m at
+  unclaimed_at l r c (machine.Read m) at = tt
+  unclaimed_at l r c (machine.Write m) at = tt
+  unclaimed_at l r c (machine.Exchange m) at = tt
+  unclaimed_at l r c (machine.Retire m) at = tt
+  unclaimed_at l r c machine.Retired at = tt
 
-unclaimed_after : (l : Sizes) (r : RestRecord) (m : RestMachine) → IsAfter kit_at_rest m → IsUnclaimed l r m
-unclaimed_after l r machine.Idle after = tt
-unclaimed_after l r (machine.Poll m) after = tt
-unclaimed_after l r (machine.New m) after = absurd after
-unclaimed_after l r (machine.Read m) after = tt
-unclaimed_after l r (machine.Write m) after = tt
-unclaimed_after l r (machine.Exchange m) after = tt
-unclaimed_after l r (machine.Retire m) after = tt
-unclaimed_after l r machine.Retired after = tt
+  unclaimed_after : (l : Sizes) (r : PassRecord R W E) (m : PassMachine R W E) → IsAfter kit m → IsUnclaimed l r m
+  unclaimed_after l r machine.Idle after = tt
+  unclaimed_after l r (machine.Poll m) after = tt
+  unclaimed_after l r (machine.New m) after = absurd after
+  unclaimed_after l r (machine.Read m) after = tt
+  unclaimed_after l r (machine.Write m) after = tt
+  unclaimed_after l r (machine.Exchange m) after = tt
+  unclaimed_after l r (machine.Retire m) after = tt
+  unclaimed_after l r machine.Retired after = tt
 
-unclaimed : (l : Sizes) (r : RestRecord) (c : Option Command) → IsAtCommand kit_at_rest l r c → IsUnclaimed l r r.machine
-unclaimed l r None at = unclaimed_after l r r.machine at
-unclaimed l r (Some c) at = unclaimed_at l r c r.machine at
+  unclaimed : (l : Sizes) (r : PassRecord R W E) (c : Option Command) → IsAtCommand kit l r c → IsUnclaimed l r r.machine
+  unclaimed l r None at = unclaimed_after l r r.machine at
+  unclaimed l r (Some c) at = unclaimed_at l r c r.machine at
 
--- ---- its next step
+  -- ---- its next step
 
-free_word : (x : RegionWord) → x ≡ regions.Free → word_of_region x ≡ 0
-unfolding word_of_region
-free_word x free = ap word_of_region free
+  free_word : (x : RegionWord) → x ≡ regions.Free → word_of_region x ≡ 0
+  unfolding word_of_region
+  free_word x free = ap word_of_region free
 
-module _ (l : Sizes) (words : List ℕ) (s : Space) (n : Notices) (c : Cycle) (k : PassKnown ReadMachine WriteMachine ExchangeMachine)
-    (fits : IsLayout l) (is : IsPass l (let view = k.pass.view in view.pass)) (says : Says l (reading words) s n)
-    (acked : (let view = k.pass.view in view.acked) ≡ n.phase) (free : (phase_word_at (let view = k.pass.view in view.acked)).phase ≡ Free) where
-  -- where its machine leaves it its room, the space has it
-  abbrev IsRoomy : RestMachine → Type 0
-  IsRoomy m = has_room m ≡ true → IsRoom l s (let view = view_by m k.pass.view in view.pass) (room_by m k.pass.room)
+  module _ (l : Sizes) (words : List ℕ) (s : Space) (n : Notices) (c : Cycle) (k : PassKnown R W E)
+      (fits : IsLayout l) (is : IsPass l (let view = k.pass.view in view.pass)) (says : Says l (reading words) s n)
+      (acked : (let view = k.pass.view in view.acked) ≡ n.phase) where
+    -- where its machine leaves it its room, the space has it
+    abbrev IsRoomy : PassMachine R W E → Type 0
+    IsRoomy m = has_room m ≡ true → IsRoom l s (let view = view_by m k.pass.view in view.pass) (room_by m k.pass.room)
 
-  -- the first region of a pass that has none yet
-  first_free : (round : Round) → k.pass.room ≡ no_room → round ≡ round_of l (let view = k.pass.view in view.pass) None → IsRoom l s (let view = k.pass.view in view.pass) k.pass.room → reading words round.at ≡ 0
-  first_free round none round_is room =
-      let pass : ℕ = let view = k.pass.view in view.pass in
-      let first : ℕ = first_own l pass in
-      let place : round.at ≡ region_at l first = ap (λ (x : Round). x.at) round_is in
-      let own : IsOwn l pass first = (omega arith, omega arith) in
-      let unused = room.free (ap (λ (x : Room). x.region) none) first own in
-      ap (reading words) place ∙ says.regions.word first (own_there l pass first fits is own) ∙ free_word (s.region first) unused
+    -- the first region of a pass that has none yet
+    first_free : (round : Round) → k.pass.room ≡ no_room → round ≡ round_of l (let view = k.pass.view in view.pass) None → IsRoom l s (let view = k.pass.view in view.pass) k.pass.room → reading words round.at ≡ 0
+    first_free round none round_is room =
+        let pass : ℕ = let view = k.pass.view in view.pass in
+        let first : ℕ = first_own l pass in
+        let place : round.at ≡ region_at l first = ap (λ (x : Round). x.at) round_is in
+        let own : IsOwn l pass first = (omega arith, omega arith) in
+        let unused = room.free (ap (λ (x : Room). x.region) none) first own in
+        ap (reading words) place ∙ says.regions.word first (own_there l pass first fits is own) ∙ free_word (s.region first) unused
 
-  unhindered_at : (m : RestMachine) → IsMachine kit_at_rest l c s n k m → IsUnclaimed l k.pass m → IsRoomy m → IsUnhindered (reading words) m
-  unhindered_at machine.Idle at new roomy = tt
-  unhindered_at (machine.Poll (poll.Phase q)) at new roomy = cc (says.notices.phase)
-  unhindered_at (machine.Poll (poll.Mark q word)) at new roomy = absurd (let with = at.0 in with.acked_not acked)
-  unhindered_at (machine.Poll (poll.Follow q word register birth address)) at new roomy = absurd (let with = at.0 in with.acked_not acked)
-  unhindered_at (machine.Poll (poll.Acknowledge q word mark)) at new roomy = absurd (let with = at.0 in with.acked_not acked)
-  unhindered_at (machine.Poll (poll.Ended end)) at new roomy = tt
-  unhindered_at (machine.New (make.Look plan round)) at new roomy = first_free round new.0 new.1 (roomy refl)
-  unhindered_at (machine.New (make.Claim plan round)) at new roomy = (first_free round new.0 new.1 (roomy refl), new.2)
-  unhindered_at (machine.New (make.Fill address placement)) at new roomy = absurd new
-  unhindered_at (machine.New (make.Header placement)) at new roomy = tt
-  unhindered_at (machine.New (make.Ended end)) at new roomy = tt
-  unhindered_at (machine.Read (read.Header spot phase)) at new roomy = tt
-  unhindered_at (machine.Read (read.Field spot phase)) at new roomy = at.1 ∙ free
-  unhindered_at (machine.Read (read.Follow spot its)) at new roomy = tt
-  unhindered_at (machine.Read (read.NoField spot len)) at new roomy = tt
-  unhindered_at (machine.Write m) at new roomy = tt
-  unhindered_at (machine.Exchange (exchange.Header errand phase)) at new roomy = tt
-  unhindered_at (machine.Exchange (exchange.Field errand phase (plain.Load swap))) at new roomy = let own = at.1 in own.0 ∙ free
-  unhindered_at (machine.Exchange (exchange.Field errand phase (plain.Try swap wanted tries))) at new roomy = tt
-  unhindered_at (machine.Exchange (exchange.Field errand phase (plain.Ended end))) at new roomy = tt
-  unhindered_at (machine.Exchange (exchange.Follow errand its)) at new roomy = tt
-  unhindered_at (machine.Exchange (exchange.Ended errand end)) at new roomy = tt
-  unhindered_at (machine.Retire m) at new roomy = tt
-  unhindered_at machine.Retired at new roomy = tt
+    unhindered_at : (m : PassMachine R W E) → IsMachine kit l c s n k m → IsUnclaimed l k.pass m → IsRoomy m → IsUnhindered (reading words) m
+    unhindered_at machine.Idle at new roomy = tt
+    unhindered_at (machine.Poll (poll.Phase q)) at new roomy = cc (says.notices.phase)
+    unhindered_at (machine.Poll (poll.Mark q word)) at new roomy = absurd (let with = at.0 in with.acked_not acked)
+    unhindered_at (machine.Poll (poll.Follow q word register birth address)) at new roomy = absurd (let with = at.0 in with.acked_not acked)
+    unhindered_at (machine.Poll (poll.Acknowledge q word mark)) at new roomy = absurd (let with = at.0 in with.acked_not acked)
+    unhindered_at (machine.Poll (poll.Ended end)) at new roomy = tt
+    unhindered_at (machine.New (make.Look plan round)) at new roomy = first_free round new.0 new.1 (roomy refl)
+    unhindered_at (machine.New (make.Claim plan round)) at new roomy = (first_free round new.0 new.1 (roomy refl), new.2)
+    unhindered_at (machine.New (make.Fill address placement)) at new roomy = absurd new
+    unhindered_at (machine.New (make.Header placement)) at new roomy = tt
+    unhindered_at (machine.New (make.Ended end)) at new roomy = tt
+    unhindered_at (machine.Read m) at new roomy = tt
+    unhindered_at (machine.Write m) at new roomy = tt
+    unhindered_at (machine.Exchange m) at new roomy = tt
+    unhindered_at (machine.Retire m) at new roomy = tt
+    unhindered_at machine.Retired at new roomy = tt
 
--- ---- of a lawful world
+  -- ---- of a lawful world
 
-not_retired : (m : RestMachine) → asks m ≢ steps.Ended → m ≢ machine.Retired
-not_retired m on is = on (ap asks is)
+  module _ (by : Stepping R W E M) where
+    not_retired : (m : PassMachine R W E) → asks kit by m ≢ steps.Ended → m ≢ machine.Retired
+    not_retired m on is = on (ap (asks kit by) is)
 
--- where the collector has not begun
-pub unhindered : (w : RestState) → Lawful kit_at_rest w → (p : ℕ) → IsPass w.layout p → (cycles : ℕ) → w.collector ≡ collector_of kit_at_rest w.layout cycles → asks_at kit_at_rest steps_at_rest w p ≢ steps.Ended
-    → IsUnhindered (reading w.words) (machine_at w p)
-unhindered w lw p is cycles start on =
-    let r : RestRecord = pass_at w p in
-    let its = pass_record kit_at_rest w lw p is in
-    let collects = collector_record kit_at_rest w lw in
-    let thread = lw.threads p is in
-    let own : r.view.pass ≡ p = thread.number in
-    let said = acknowledged kit_at_rest w lw p is in
-    let running : r.view.acked ≢ retired_word = λ e. not_retired r.machine on (said.retired.0 e) in
-    let passed : passed_of w.collector ≡ w.layout.passes = ap passed_of start ∙ passed_from_start w.layout cycles in
-    let acked : r.view.acked ≡ announced_of w.collector = said.passed running (omega (arith, is.1, passed)) in
-    let phase : announced_of w.collector ≡ lw.records.notices.phase = ap announced_of collects.machine ∙ sym lw.records.announced in
-    let free : (phase_word_at r.view.acked).phase ≡ Free = ap (λ (x : PhaseWord). x.phase) (ap phase_word_at (acked ∙ ap announced_of start) ∙ free_from_start w.layout cycles) in
-    unhindered_at w.layout w.words lw.records.space lw.records.notices (cycle_of lw.records.collector) (known_in w r)
-    lw.records.layout (subst (IsPass w.layout) (sym own) is) lw.records.says (acked ∙ phase) free
-    r.machine its.machine (unclaimed w.layout r _ thread.at) its.room
+    -- where the collector has not begun
+    pub unhindered : (w : State R W E M) → Lawful kit w → (p : ℕ) → IsPass w.layout p → (cycles : ℕ) → w.collector ≡ collector_of kit w.layout cycles → asks_at kit by w p ≢ steps.Ended
+        → IsUnhindered (reading w.words) (machine_at w p)
+    unhindered w lw p is cycles start on =
+        let r : PassRecord R W E = pass_at w p in
+        let its = pass_record kit w lw p is in
+        let collects = collector_record kit w lw in
+        let thread = lw.threads p is in
+        let own : r.view.pass ≡ p = thread.number in
+        let said = acknowledged kit w lw p is in
+        let running : r.view.acked ≢ retired_word = λ e. not_retired r.machine on (said.retired.0 e) in
+        let passed : passed_of w.collector ≡ w.layout.passes = ap passed_of start ∙ passed_from_start kit w.layout cycles in
+        let acked : r.view.acked ≡ announced_of w.collector = said.passed running (omega (arith, is.1, passed)) in
+        let phase : announced_of w.collector ≡ lw.records.notices.phase = ap announced_of collects.machine ∙ sym lw.records.announced in
+        unhindered_at w.layout w.words lw.records.space lw.records.notices (cycle_of lw.records.collector) (known_in w r)
+        lw.records.layout (subst (IsPass w.layout) (sym own) is) lw.records.says (acked ∙ phase)
+        r.machine its.machine (unclaimed w.layout r _ thread.at) its.room

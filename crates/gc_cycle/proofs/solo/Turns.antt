@@ -1,7 +1,8 @@
--- What a turn of a thread leaves it to do, over the copier at rest.
+-- What a turn of a thread leaves it to do, where no other party takes one.
 use Rattle.std.proofs.Common.{◌≡◌, ◌≢◌, ℕ, ◌+◌, ◌-◌, ◌*◌, ◌<◌, ◌≤◌, Bool, true, false, List, [], ◌∷◌, ◌++◌, length, get_or, set, Option, Some, None, refl, sym, ap, ◌∙◌, subst, arith, lit≤, length-append, length-set, get_or-set_same, get_or-set_other}
 use Rattle.std.specs.Prelude.{◌==◌, nat_lt, if◌then◌else◌, option_map}
 use Rattle.std.proofs.lemmas.Bool.Decides.{nat_tests}
+use Rattle.call_steps.specs.declared.step.Step.{Step}
 use Rattle.call_steps.specs.declared.step.Step.TheVariants as steps
 use Rattle.call_steps.specs.StepLaws.{reading}
 use Rattle.heap_words.specs.declared.field_word.FieldWord.{FieldWord}
@@ -26,38 +27,27 @@ use Rattle.barriers.specs.declared.new_object.NewMachine.{NewMachine}
 use Rattle.barriers.specs.declared.new_object.NewMachine.TheVariants as make
 use Rattle.barriers.specs.declared.ends.NewRefusal.TheVariants.{BirthsSpent}
 use Rattle.heap_words.specs.declared.limits.TheConstants.{BIRTHS_OF_PASS}
-use Rattle.barriers.specs.declared.read.ReadMachine.{ReadMachine}
-use Rattle.barriers.specs.declared.write.WriteMachine.{WriteMachine}
-use Rattle.barriers.specs.declared.exchange.ExchangeMachine.{ExchangeMachine}
 use Rattle.barriers.specs.declared.pass.PassRecord.{PassRecord}
+use Rattle.barriers.specs.declared.pass.PassMachine.{PassMachine}
 use Rattle.barriers.specs.declared.pass.PassMachine.TheVariants as machine
 use Rattle.barriers.specs.declared.room.Room.{Room}
+use Rattle.barriers.specs.Kits.{Kit, Stepping}
 use Rattle.barriers.specs.NewObjects as makes
 use Rattle.barriers.specs.Records.{ended_of, with_end, started, accessed, operand_word}
-use Rattle.at_rest.specs.Knowing.{kit_at_rest}
-use Rattle.at_rest.specs.Rests.{steps_at_rest}
 use Rattle.gc_cycle.specs.declared.sequel.Sequel.{Sequel}
 use Rattle.gc_cycle.specs.declared.sequel.Sequel.TheVariants as sequel
 use Rattle.gc_cycle.specs.Sequels.{sequel_of}
 use Rattle.gc_cycle.specs.Worlds.{State, nobody, pass_at, answered, changes_now, face_of, put_pass, or_else, with_put, in_front, IsThere, asks_at, fed_at, stepped, taken, answered_with, access_begun, followed_at, concluded_by, settled_by, command_at}
-use Rattle.at_rest.specs.declared.stay.StayMachine.{StayMachine}
-use Rattle.gc_cycle.proofs.solo.Left.{RestMachine, left, left_new, IsWanted, IsUnhindered, most_left, IsLess, IsOnward, some_left, goes_on}
+use Rattle.gc_cycle.proofs.solo.Left.{left, left_new, IsWanted, IsUnhindered, most_left, IsLess, IsOnward, some_left, goes_on}
+use Rattle.gc_cycle.proofs.solo.PlaysAlone.{FindsWanted, WantsNone, PlaysAlone}
 
-abbrev pub RestState : Type 0
-RestState = State ReadMachine WriteMachine ExchangeMachine StayMachine
+module _ {R W E M : Type 0} where
+  abbrev pub machine_at : State R W E M → ℕ → PassMachine R W E
+  machine_at w party = let p = pass_at w party in p.machine
 
-abbrev pub RestRecord : Type 0
-RestRecord = PassRecord ReadMachine WriteMachine ExchangeMachine
-
-abbrev pub machine_at : RestState → ℕ → RestMachine
-machine_at w party = let p = pass_at w party in p.machine
-
--- the steps of a thread until it has ended, of which four are those of each command after the one that it is at
+-- the steps of a thread until it has ended, of which 18 are those of each command after the one that it is at
 abbrev pub left_with : ℕ → ℕ → ℕ → ℕ
-left_with commands answers left = 4 * (commands - answers - 1) + left
-
-abbrev pub to_do : RestState → ℕ → ℕ
-to_do w party = left_with (length (commands_at w.commands party)) (answered w party) (left (machine_at w party))
+left_with commands answers left = 18 * (commands - answers - 1) + left
 
 -- places of numbers that count from 1
 set_here : {X : Type 0} (xs : List X) (p : ℕ) (x d : X) → 1 ≤ p → p ≤ length xs → get_or (set xs (p - 1) x) (p - 1) d ≡ x
@@ -78,38 +68,6 @@ new_left : (spent : Bool) (m : NewMachine) → left_new m ≤ 3 → left_new (if
 new_left true m few = lit≤ tt
 new_left false m few = few
 
--- if it begins, it has fewer steps left
-abbrev IsBegun : (ℕ → ℕ) → ℕ → Option RestRecord → Type 0
-IsBegun memory before None = Unit {0}
-IsBegun memory before (Some r) = (left r.machine < before) × IsWanted memory r.machine
-
-module _ (memory : ℕ → ℕ) (before : ℕ) (l : Sizes) (r : RestRecord) where
-  read_begun : (word : FieldWord) (field : ℕ) → 13 < before
-      → IsBegun memory before (option_map (λ m. record r { machine = m }) (accessed word (λ birth at. machine.Read (kit_at_rest.starts_read l r.view birth at field))))
-  read_begun (Num n) field less = tt
-  read_begun (Link birth at) field less = (omega (arith, less), tt)
-
-  write_begun : (word : FieldWord) (field : ℕ) (what : Operand) → 13 < before
-      → IsBegun memory before (option_map (λ m. record r { machine = m }) (accessed word (λ birth at. machine.Write (kit_at_rest.starts_write l r.view birth at field (word_of (operand_word r.registers what))))))
-  write_begun (Num n) field what less = tt
-  write_begun (Link birth at) field what less = (omega (arith, less), tt)
-
-  exchange_begun : (word : FieldWord) (field : ℕ) (expected what : Operand) → 13 < before
-      → IsBegun memory before (option_map (λ m. record r { machine = m }) (accessed word (λ birth at. machine.Exchange (kit_at_rest.starts_exchange l r.view birth at field (operand_word r.registers expected) (word_of (operand_word r.registers what))))))
-  exchange_begun (Num n) field expected what less = tt
-  exchange_begun (Link birth at) field expected what less = (less, tt)
-
-  request_begun : (request : Request) → most_left request < before → IsBegun memory before (started kit_at_rest l r request)
-  request_begun requests.Poll less = (less, tt)
-  request_begun (requests.New len) less =
-      let m : NewMachine = makes.by_fit l r.view.pass r.room r.made len r.room.region (fits_behind r.room.used len) in
-      let few : left_new (makes.new_of l r.view r.room r.made len) ≤ 3 = new_left (r.made == BIRTHS_OF_PASS) m (fits_left l r.view.pass r.made len r.room r.room.region (fits_behind r.room.used len)) in
-      (omega (arith, few, less), tt)
-  request_begun (requests.Read obj field) less = read_begun (held_in r.registers obj) field less
-  request_begun (requests.Write obj field what) less = write_begun (held_in r.registers obj) field what less
-  request_begun (requests.Exchange obj field expected what) less = exchange_begun (held_in r.registers obj) field expected what less
-  request_begun requests.Retire less = (less, tt)
-
 -- none has less than the retirement
 least_left : (request : Request) → 10 ≤ most_left request
 least_left requests.Poll = lit≤ tt
@@ -119,130 +77,178 @@ least_left (requests.Write obj field what) = lit≤ tt
 least_left (requests.Exchange obj field expected what) = lit≤ tt
 least_left requests.Retire = lit≤ tt
 
--- after a command there are four steps for each that is left, and ten to retire
-pub begins_left : (size count : ℕ) (l : Sizes) (r : RestRecord) (b : Bool) → nat_lt count size ≡ b
-    → left_with size count (left (or_else (started kit_at_rest l r (if b then requests.Poll else requests.Retire)) r).machine) ≤ 4 * (size - count) + 10
-begins_left size count l r true e = let below : count < size = grind (arith, nat_tests) in omega (arith, below)
-begins_left size count l r false e = let past : size ≤ count = grind (arith, nat_tests) in omega (arith, past)
+-- one that wants nothing finds what it wants
+pub none_finds : (memory : ℕ → ℕ) (step : Step) → WantsNone step → FindsWanted memory step
+none_finds memory (steps.Load at) none = tt
+none_finds memory (steps.Store at put) none = tt
+none_finds memory (steps.Exchange at want put) none = absurd none
+none_finds memory (steps.Add at by) none = tt
+none_finds memory (steps.Sub at by) none = tt
+none_finds memory steps.Ended none = tt
 
-begins_wants : (memory : ℕ → ℕ) (l : Sizes) (r : RestRecord) (b : Bool) → IsWanted memory (or_else (started kit_at_rest l r (if b then requests.Poll else requests.Retire)) r).machine
-begins_wants memory l r true = tt
-begins_wants memory l r false = tt
+module _ {R W E M : Type 0} (kit : Kit R W E M) (by : Stepping R W E M) where
+  abbrev pub to_do : State R W E M → ℕ → ℕ
+  to_do w party = left_with (length (commands_at w.commands party)) (answered w party) (left kit by (machine_at w party))
 
--- a pass whose machine has ended is between two machines, or has retired
-abbrev IsBetween : (ℕ → ℕ) → RestMachine → Type 0
-IsBetween memory m = (left m ≡ 0) × IsWanted memory m
+  -- if it begins, it has fewer steps left
+  abbrev IsBegun : (ℕ → ℕ) → ℕ → Option (PassRecord R W E) → Type 0
+  IsBegun memory before None = Unit {0}
+  IsBegun memory before (Some r) = (left kit by r.machine < before) × IsWanted kit by memory r.machine
 
-between : (memory : ℕ → ℕ) (r : RestRecord) (end : MachineEnd) → IsBetween memory (with_end r end).machine
-between memory r (ends.Poll end) = (refl, tt)
-between memory r (ends.New (new_end.Made birth at room)) = (refl, tt)
-between memory r (ends.New (new_end.Refused why)) = (refl, tt)
-between memory r (ends.Read end) = (refl, tt)
-between memory r (ends.Write end) = (refl, tt)
-between memory r (ends.Exchange end) = (refl, tt)
-between memory r ends.Retire = (refl, tt)
+  module _ (alone : PlaysAlone kit by) (memory : ℕ → ℕ) (before : ℕ) (l : Sizes) (r : PassRecord R W E) where
+    read_begun : (word : FieldWord) (field : ℕ) → 27 < before
+        → IsBegun memory before (option_map (λ m. record r { machine = m }) (accessed word (λ birth at. machine.Read (kit.starts_read l r.view birth at field))))
+    read_begun (Num n) field less = tt
+    read_begun (Link birth at) field less = (omega (arith, less, alone.read_few l r.view birth at field), tt)
 
--- ---- what comes of a step
+    write_begun : (word : FieldWord) (field : ℕ) (what : Operand) → 27 < before
+        → IsBegun memory before (option_map (λ m. record r { machine = m }) (accessed word (λ birth at. machine.Write (kit.starts_write l r.view birth at field (word_of (operand_word r.registers what))))))
+    write_begun (Num n) field what less = tt
+    write_begun (Link birth at) field what less = (omega (arith, less, alone.write_few l r.view birth at field (word_of (operand_word r.registers what))), tt)
 
--- The thread has less to do than it had with so many steps of its machine, what its exchange wants is there, and all else is where it was.
-pub record Goes (w : RestState) (p before : ℕ) (new : RestState) : Type 0 where
-  pub less : to_do new p < left_with (length (commands_at w.commands p)) (answered w p) before
-  pub wants : IsWanted (reading new.words) (machine_at new p)
-  pub passes : (q : ℕ) → 1 ≤ q → q ≢ p → pass_at new q ≡ pass_at w q
-  pub answers : (q : ℕ) → 1 ≤ q → q ≢ p → answers_at new.told.answers q ≡ answers_at w.told.answers q
-  pub commands : new.commands ≡ w.commands
-  pub layout : new.layout ≡ w.layout
-  pub collector : new.collector ≡ w.collector
+    exchange_begun : (word : FieldWord) (field : ℕ) (expected what : Operand) → 27 < before
+        → IsBegun memory before (option_map (λ m. record r { machine = m }) (accessed word (λ birth at. machine.Exchange (kit.starts_exchange l r.view birth at field (operand_word r.registers expected) (word_of (operand_word r.registers what))))))
+    exchange_begun (Num n) field expected what less = tt
+    exchange_begun (Link birth at) field expected what less =
+        let put : ℕ = word_of (operand_word r.registers what) in
+        let m : E = kit.starts_exchange l r.view birth at field (operand_word r.registers expected) put in
+        (omega (arith, less, alone.exchange_few l r.view birth at field (operand_word r.registers expected) put), none_finds memory (by.exchange_asks m) (alone.exchange_first l r.view birth at field (operand_word r.registers expected) put))
 
-module _ (w : RestState) (p : ℕ) (there : IsThere w p) (before : ℕ) where
-  abbrev size : ℕ
-  size = length (commands_at w.commands p)
+    request_begun : (request : Request) → most_left request < before → IsBegun memory before (started kit l r request)
+    request_begun requests.Poll less = (less, tt)
+    request_begun (requests.New len) less =
+        let m : NewMachine = makes.by_fit l r.view.pass r.room r.made len r.room.region (fits_behind r.room.used len) in
+        let few : left_new (makes.new_of l r.view r.room r.made len) ≤ 3 = new_left (r.made == BIRTHS_OF_PASS) m (fits_left l r.view.pass r.made len r.room r.room.region (fits_behind r.room.used len)) in
+        (omega (arith, few, less), tt)
+    request_begun (requests.Read obj field) less = read_begun (held_in r.registers obj) field less
+    request_begun (requests.Write obj field what) less = write_begun (held_in r.registers obj) field what less
+    request_begun (requests.Exchange obj field expected what) less = exchange_begun (held_in r.registers obj) field expected what less
+    request_begun requests.Retire less = (less, tt)
 
-  -- a record is put in its place
-  puts : (r : RestRecord) → left r.machine < before → IsWanted (reading w.words) r.machine → Goes w p before (put_pass w p r)
-  puts r less wants =
-      let here : get_or (set w.passes (p - 1) r) (p - 1) nobody ≡ r = set_here w.passes p r nobody there.least there.passes in
-      record {
-        less = subst (λ (k : RestRecord). left_with size (answered w p) (left k.machine) < left_with size (answered w p) before) (sym here) (omega (arith, less));
-        wants = subst (λ (k : RestRecord). IsWanted (reading w.words) k.machine) (sym here) wants;
-        passes = λ q least apart. set_there w.passes p q r nobody there.least least apart;
-        answers = λ q least apart. refl;
-        commands = refl;
-        layout = refl;
-        collector = refl;
-      }
+  -- after a command there are 18 steps for each that is left, and ten to retire
+  pub begins_left : (size count : ℕ) (l : Sizes) (r : PassRecord R W E) (b : Bool) → nat_lt count size ≡ b
+      → left_with size count (left kit by (or_else (started kit l r (if b then requests.Poll else requests.Retire)) r).machine) ≤ 18 * (size - count) + 10
+  begins_left size count l r true e = let below : count < size = grind (arith, nat_tests) in omega (arith, below)
+  begins_left size count l r false e = let past : size ≤ count = grind (arith, nat_tests) in omega (arith, past)
 
-  -- a command is answered
-  answers_on : (r : RestRecord) (a : Answer) (call : Option Ended) → 10 < before → Goes w p before (answered_with kit_at_rest w p r a call)
-  answers_on r a call some =
-      let next : RestRecord = or_else (started kit_at_rest w.layout r (if nat_lt (answered w p + 1) size then requests.Poll else requests.Retire)) r in
-      let here : get_or (set w.passes (p - 1) next) (p - 1) nobody ≡ next = set_here w.passes p next nobody there.least there.passes in
-      let told : length (get_or (set w.told.answers (p - 1) (answers_at w.told.answers p ++ a ∷ [])) (p - 1) []) ≡ answered w p + 1 =
-      ap length (set_here w.told.answers p (answers_at w.told.answers p ++ a ∷ []) [] there.least there.answers) ∙ length-append (answers_at w.told.answers p) (a ∷ []) in
-      let after : left_with size (answered w p + 1) (left next.machine) ≤ 4 * (size - (answered w p + 1)) + 10 = begins_left size (answered w p + 1) w.layout r (nat_lt (answered w p + 1) size) refl in
-      let least : left_with size (answered w p + 1) (left next.machine) < left_with size (answered w p) before = omega (arith, after, some) in
-      let machine_here = subst (λ (k : RestRecord). left_with size (answered w p + 1) (left k.machine) < left_with size (answered w p) before) (sym here) least in
-      record {
-        less = subst (λ (n : ℕ). left_with size n (left (get_or (set w.passes (p - 1) next) (p - 1) nobody).machine) < left_with size (answered w p) before) (sym told) machine_here;
-        wants = subst (λ (k : RestRecord). IsWanted (reading w.words) k.machine) (sym here) (begins_wants (reading w.words) w.layout r (nat_lt (answered w p + 1) size));
-        passes = λ q least apart. set_there w.passes p q next nobody there.least least apart;
-        answers = λ q least apart. set_there w.told.answers p q (answers_at w.told.answers p ++ a ∷ []) [] there.least least apart;
-        commands = refl;
-        layout = refl;
-        collector = refl;
-      }
+  begins_wants : (memory : ℕ → ℕ) (l : Sizes) (r : PassRecord R W E) (b : Bool) → IsWanted kit by memory (or_else (started kit l r (if b then requests.Poll else requests.Retire)) r).machine
+  begins_wants memory l r true = tt
+  begins_wants memory l r false = tt
 
-  begins_on : (r : RestRecord) (next : Option RestRecord) → 10 < before → IsBegun (reading w.words) before next → Goes w p before (access_begun kit_at_rest w p r next)
-  begins_on r None some begun = answers_on r answers.NotLink None some
-  begins_on r (Some next) some begun = puts next begun.0 begun.1
+  -- a pass whose machine has ended is between two machines, or has retired
+  abbrev IsBetween : (ℕ → ℕ) → PassMachine R W E → Type 0
+  IsBetween memory m = (left kit by m ≡ 0) × IsWanted kit by memory m
 
-  follows_on : (r : RestRecord) (s : Sequel) → IsBetween (reading w.words) r.machine → IsLess before s → Goes w p before (followed_at kit_at_rest w p r s)
-  follows_on r sequel.Nothing rests less = puts r (omega (arith, rests.0, less)) rests.1
-  follows_on r (sequel.Starts request) rests less =
-      begins_on r (started kit_at_rest w.layout r request) (omega (arith, least_left request, less)) (request_begun (reading w.words) before w.layout r request less)
-  follows_on r (sequel.Answered put answer ended) rests less = answers_on (in_front (with_put r put) ended) answer ended less
-  follows_on r (sequel.Retries why) rests less = absurd less
+  between : (memory : ℕ → ℕ) (r : PassRecord R W E) (end : MachineEnd) → IsBetween memory (with_end r end).machine
+  between memory r (ends.Poll end) = (refl, tt)
+  between memory r (ends.New (new_end.Made birth at room)) = (refl, tt)
+  between memory r (ends.New (new_end.Refused why)) = (refl, tt)
+  between memory r (ends.Read end) = (refl, tt)
+  between memory r (ends.Write end) = (refl, tt)
+  between memory r (ends.Exchange end) = (refl, tt)
+  between memory r ends.Retire = (refl, tt)
 
-  concludes_on : (end : MachineEnd) (command : Option Command) → 0 < before → IsOnward (reading w.words) before (machine_at w p) (Some end)
-      → Goes w p before (concluded_by kit_at_rest w p (with_end (pass_at w p) end) end command)
-  concludes_on end None some onward = let rests = between (reading w.words) (pass_at w p) end in puts (with_end (pass_at w p) end) (omega (arith, rests.0, some)) rests.1
-  concludes_on end (Some command) some onward =
-      let r : RestRecord = with_end (pass_at w p) end in
-      follows_on r (sequel_of (changes_now w) command (face_of r) end) (between (reading w.words) (pass_at w p) end) (onward (changes_now w) command (face_of r))
+  -- ---- what comes of a step
 
-  settles_on : (end : Option MachineEnd) → 0 < before → IsOnward (reading w.words) before (machine_at w p) end → Goes w p before (settled_by kit_at_rest w p end)
-  settles_on None some onward = record {
-    less = omega (arith, onward.0);
-    wants = onward.1;
-    passes = λ q least apart. refl;
-    answers = λ q least apart. refl;
-    commands = refl;
-    layout = refl;
-    collector = refl;
-  }
-  settles_on (Some end) some onward = concludes_on end (command_at w p) some onward
+  -- The thread has less to do than it had with so many steps of its machine, what its exchange wants is there, and all else is where it was.
+  pub record Goes (w : State R W E M) (p before : ℕ) (new : State R W E M) : Type 0 where
+    pub less : to_do new p < left_with (length (commands_at w.commands p)) (answered w p) before
+    pub wants : IsWanted kit by (reading new.words) (machine_at new p)
+    pub passes : (q : ℕ) → 1 ≤ q → q ≢ p → pass_at new q ≡ pass_at w q
+    pub answers : (q : ℕ) → 1 ≤ q → q ≢ p → answers_at new.told.answers q ≡ answers_at w.told.answers q
+    pub commands : new.commands ≡ w.commands
+    pub layout : new.layout ≡ w.layout
+    pub collector : new.collector ≡ w.collector
 
--- ---- a turn
+  module _ (alone : PlaysAlone kit by) (w : State R W E M) (p : ℕ) (there : IsThere w p) (before : ℕ) where
+    abbrev size : ℕ
+    size = length (commands_at w.commands p)
 
--- where nothing is announced yet
-pub turn_goes : (w : RestState) (p : ℕ) → IsThere w p → asks_at kit_at_rest steps_at_rest w p ≢ steps.Ended → IsUnhindered (reading w.words) (machine_at w p) → IsWanted (reading w.words) (machine_at w p)
-    → Goes w p (left (machine_at w p)) (taken kit_at_rest steps_at_rest w p)
-turn_goes w p there on unhindered wants =
-    let m : RestMachine = machine_at w p in
-    let x : RestState = stepped kit_at_rest steps_at_rest w p in
-    let f : RestRecord = fed_at kit_at_rest steps_at_rest w p in
-    let here : pass_at x p ≡ f = set_here w.passes p f nobody there.least there.passes in
-    let onward : IsOnward (reading x.words) (left m) (machine_at x p) (ended_of kit_at_rest (machine_at x p)) =
-    subst (λ (k : RestRecord). IsOnward (reading x.words) (left m) k.machine (ended_of kit_at_rest k.machine)) (sym here) (goes_on w.words m on unhindered wants) in
-    let at : IsThere x p = record { least = there.least; passes = omega (arith, there.passes, length-set w.passes (p - 1) f); commands = there.commands; answers = there.answers } in
-    let some : 0 < left m = some_left m on in
-    let comes = settles_on x p at (left m) (ended_of kit_at_rest (machine_at x p)) some onward in
-    record {
-      less = comes.less;
-      wants = comes.wants;
-      passes = λ q least apart. comes.passes q least apart ∙ set_there w.passes p q f nobody there.least least apart;
-      answers = comes.answers;
-      commands = comes.commands;
-      layout = comes.layout;
-      collector = comes.collector;
+    -- a record is put in its place
+    puts : (r : PassRecord R W E) → left kit by r.machine < before → IsWanted kit by (reading w.words) r.machine → Goes w p before (put_pass w p r)
+    puts r less wants =
+        let here : get_or (set w.passes (p - 1) r) (p - 1) nobody ≡ r = set_here w.passes p r nobody there.least there.passes in
+        record {
+          less = subst (λ (k : PassRecord R W E). left_with size (answered w p) (left kit by k.machine) < left_with size (answered w p) before) (sym here) (omega (arith, less));
+          wants = subst (λ (k : PassRecord R W E). IsWanted kit by (reading w.words) k.machine) (sym here) wants;
+          passes = λ q least apart. set_there w.passes p q r nobody there.least least apart;
+          answers = λ q least apart. refl;
+          commands = refl;
+          layout = refl;
+          collector = refl;
+        }
+
+    -- a command is answered
+    answers_on : (r : PassRecord R W E) (a : Answer) (call : Option Ended) → 10 < before → Goes w p before (answered_with kit w p r a call)
+    answers_on r a call some =
+        let next : PassRecord R W E = or_else (started kit w.layout r (if nat_lt (answered w p + 1) size then requests.Poll else requests.Retire)) r in
+        let here : get_or (set w.passes (p - 1) next) (p - 1) nobody ≡ next = set_here w.passes p next nobody there.least there.passes in
+        let told : length (get_or (set w.told.answers (p - 1) (answers_at w.told.answers p ++ a ∷ [])) (p - 1) []) ≡ answered w p + 1 =
+        ap length (set_here w.told.answers p (answers_at w.told.answers p ++ a ∷ []) [] there.least there.answers) ∙ length-append (answers_at w.told.answers p) (a ∷ []) in
+        let after : left_with size (answered w p + 1) (left kit by next.machine) ≤ 18 * (size - (answered w p + 1)) + 10 = begins_left size (answered w p + 1) w.layout r (nat_lt (answered w p + 1) size) refl in
+        let least : left_with size (answered w p + 1) (left kit by next.machine) < left_with size (answered w p) before = omega (arith, after, some) in
+        let machine_here = subst (λ (k : PassRecord R W E). left_with size (answered w p + 1) (left kit by k.machine) < left_with size (answered w p) before) (sym here) least in
+        record {
+          less = subst (λ (n : ℕ). left_with size n (left kit by (get_or (set w.passes (p - 1) next) (p - 1) nobody).machine) < left_with size (answered w p) before) (sym told) machine_here;
+          wants = subst (λ (k : PassRecord R W E). IsWanted kit by (reading w.words) k.machine) (sym here) (begins_wants (reading w.words) w.layout r (nat_lt (answered w p + 1) size));
+          passes = λ q least apart. set_there w.passes p q next nobody there.least least apart;
+          answers = λ q least apart. set_there w.told.answers p q (answers_at w.told.answers p ++ a ∷ []) [] there.least least apart;
+          commands = refl;
+          layout = refl;
+          collector = refl;
+        }
+
+    begins_on : (r : PassRecord R W E) (next : Option (PassRecord R W E)) → 10 < before → IsBegun (reading w.words) before next → Goes w p before (access_begun kit w p r next)
+    begins_on r None some begun = answers_on r answers.NotLink None some
+    begins_on r (Some next) some begun = puts next begun.0 begun.1
+
+    follows_on : (r : PassRecord R W E) (s : Sequel) → IsBetween (reading w.words) r.machine → IsLess before s → Goes w p before (followed_at kit w p r s)
+    follows_on r sequel.Nothing rests less = puts r (omega (arith, rests.0, less)) rests.1
+    follows_on r (sequel.Starts request) rests less =
+        begins_on r (started kit w.layout r request) (omega (arith, least_left request, less)) (request_begun alone (reading w.words) before w.layout r request less)
+    follows_on r (sequel.Answered put answer ended) rests less = answers_on (in_front (with_put r put) ended) answer ended less
+    follows_on r (sequel.Retries why) rests less = absurd less
+
+    concludes_on : (end : MachineEnd) (command : Option Command) → 0 < before → IsOnward kit by (reading w.words) before (machine_at w p) (Some end)
+        → Goes w p before (concluded_by kit w p (with_end (pass_at w p) end) end command)
+    concludes_on end None some onward = let rests = between (reading w.words) (pass_at w p) end in puts (with_end (pass_at w p) end) (omega (arith, rests.0, some)) rests.1
+    concludes_on end (Some command) some onward =
+        let r : PassRecord R W E = with_end (pass_at w p) end in
+        follows_on r (sequel_of (changes_now w) command (face_of r) end) (between (reading w.words) (pass_at w p) end) (onward (changes_now w) command (face_of r))
+
+    settles_on : (end : Option MachineEnd) → 0 < before → IsOnward kit by (reading w.words) before (machine_at w p) end → Goes w p before (settled_by kit w p end)
+    settles_on None some onward = record {
+      less = omega (arith, onward.0);
+      wants = onward.1;
+      passes = λ q least apart. refl;
+      answers = λ q least apart. refl;
+      commands = refl;
+      layout = refl;
+      collector = refl;
     }
+    settles_on (Some end) some onward = concludes_on end (command_at w p) some onward
+
+  -- ---- a turn
+
+  -- where nothing is announced yet
+  pub turn_goes : PlaysAlone kit by → (w : State R W E M) (p : ℕ) → IsThere w p → asks_at kit by w p ≢ steps.Ended → IsUnhindered (reading w.words) (machine_at w p) → IsWanted kit by (reading w.words) (machine_at w p)
+      → Goes w p (left kit by (machine_at w p)) (taken kit by w p)
+  turn_goes alone w p there on unhindered wants =
+      let m : PassMachine R W E = machine_at w p in
+      let x : State R W E M = stepped kit by w p in
+      let f : PassRecord R W E = fed_at kit by w p in
+      let here : pass_at x p ≡ f = set_here w.passes p f nobody there.least there.passes in
+      let onward : IsOnward kit by (reading x.words) (left kit by m) (machine_at x p) (ended_of kit (machine_at x p)) =
+      subst (λ (k : PassRecord R W E). IsOnward kit by (reading x.words) (left kit by m) k.machine (ended_of kit k.machine)) (sym here) (goes_on kit by alone w.words m on unhindered wants) in
+      let at : IsThere x p = record { least = there.least; passes = omega (arith, there.passes, length-set w.passes (p - 1) f); commands = there.commands; answers = there.answers } in
+      let some : 0 < left kit by m = some_left kit by alone m on in
+      let comes = settles_on alone x p at (left kit by m) (ended_of kit (machine_at x p)) some onward in
+      record {
+        less = comes.less;
+        wants = comes.wants;
+        passes = λ q least apart. comes.passes q least apart ∙ set_there w.passes p q f nobody there.least least apart;
+        answers = comes.answers;
+        commands = comes.commands;
+        layout = comes.layout;
+        collector = comes.collector;
+      }
