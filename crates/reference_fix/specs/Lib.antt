@@ -1,0 +1,3 @@
+pub mod MovedLinks
+pub mod FieldFixes
+pub mod RootFixes
