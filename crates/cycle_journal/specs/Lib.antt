@@ -1,0 +1,2 @@
+pub mod LastHeaps
+pub mod Lines
