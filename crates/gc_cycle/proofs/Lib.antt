@@ -1,6 +1,7 @@
 pub mod Acknowledging
 pub mod AllowedAnswers
 pub mod Playing
+pub mod Reporting
 pub mod Running
 pub mod Schedules
 pub mod Settling

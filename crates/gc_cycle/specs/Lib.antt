@@ -1,4 +1,5 @@
 pub mod Lawful
+pub mod Reports
 pub mod Runs
 pub mod Schedules
 pub mod Sequels

@@ -8,6 +8,7 @@ ghost use Rattle.gc_cycle.specs.Worlds.{CanTell, CanConclude, CanSettle, CanTake
 
 mod opening;
 mod playing;
+mod reporting;
 mod showing;
 
 use crate::sequel::{Face, InRegister, Sequel, what_follows};
@@ -357,5 +358,7 @@ where
     }
 }
 
+#[cfg(test)]
+mod moving_tests;
 #[cfg(test)]
 mod tests;
