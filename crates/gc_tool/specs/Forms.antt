@@ -10,6 +10,8 @@ use Rattle.heap_script.specs.Allowed.{commands_of}
 use Rattle.heap_script.specs.FirstFault.{IsScript, IsFault}
 use Rattle.heap_script.specs.Scripts.{Reading, Fits}
 use Rattle.heap_script.specs.Words.{Word, number_of}
+use Rattle.gc_tool.specs.declared.forms.Copying.{Copying}
+use Rattle.gc_tool.specs.declared.forms.Copying.TheVariants as copying
 use Rattle.gc_tool.specs.declared.forms.Form.{Form}
 use Rattle.gc_tool.specs.declared.forms.Form.TheVariants as forms
 use Rattle.gc_tool.specs.declared.forms.Place.{Place}
@@ -39,6 +41,13 @@ schedule_of word =
     if bytes_eq word (codes "solo") then Some Solo
     else if bytes_eq word (codes "even") then Some Even
     else option_map Drawn (seed_of word)
+
+-- the copier of this name, if its replays are built
+abbrev pub copying_of : Word → Option Copying
+copying_of word =
+    if bytes_eq word (codes "stopless") then Some copying.Stopless
+    else if bytes_eq word (codes "chicken") then Some copying.Chicken
+    else None
 
 -- COPIER: `stopless`, `chicken` or `clover`
 abbrev pub is_copier : Word → Bool
@@ -94,20 +103,20 @@ abbrev pub usage_of : List Word → Option ℕ
 usage_of [] = Some 0
 usage_of (first ∷ later) = misfit_of (form_of first) later
 
-abbrev pub replay_with : Option Schedule → Option ℕ → Option Replay
-replay_with (Some schedule) (Some steps) = Some (record { schedule = schedule; steps = steps })
-replay_with _ _ = None
+abbrev pub replay_with : Option Copying → Option Schedule → Option ℕ → Option Replay
+replay_with (Some copier) (Some schedule) (Some steps) = Some (record { copier = copier; schedule = schedule; steps = steps })
+replay_with _ _ _ = None
 
--- what `replay stopless SCHEDULE STEPS` asks for; None for other words
-abbrev pub stopless_replay : List Word → Option Replay
-stopless_replay (command ∷ copier ∷ schedule ∷ steps ∷ []) =
-    if bytes_eq command (codes "replay") && bytes_eq copier (codes "stopless") then replay_with (schedule_of schedule) (steps_of steps) else None
-stopless_replay _ = None
+-- what `replay COPIER SCHEDULE STEPS` asks for, where the copier's replays are built; None for other words
+abbrev pub built_replay : List Word → Option Replay
+built_replay (command ∷ copier ∷ schedule ∷ steps ∷ []) =
+    if bytes_eq command (codes "replay") then replay_with (copying_of copier) (schedule_of schedule) (steps_of steps) else None
+built_replay _ = None
 
 -- the replay that a form asks for; no other form is built
 abbrev pub request_behind : Option ℕ → List Word → Result Replay Status
 request_behind (Some index) words = Err (Usage index)
-request_behind None words = ok_or (stopless_replay words) NotBuilt
+request_behind None words = ok_or (built_replay words) NotBuilt
 
 -- What the words ask for: words that are no form are `Usage`, and forms that are not built yet `NotBuilt`.
 abbrev pub request_of : List Word → Result Replay Status
@@ -115,14 +124,20 @@ request_of words = request_behind (usage_of words) words
 
 -- ---- scripts
 
--- A script in which the objects of each thread fit one region of 64 words.
-pub record IsBuilt (script : Reading) : Type 0 where
+-- the most cycles that are played with a copier
+abbrev pub most_cycles : Copying → ℕ
+most_cycles copying.Stopless = 0
+most_cycles copying.Chicken = 1
+
+-- A script whose cycles are played with this copier, and in which the objects of each thread fit one region of 64 words.
+pub record IsBuilt (copier : Copying) (script : Reading) : Type 0 where
   pub fits : Fits script
+  pub cycles : script.cycles ≤ most_cycles copier
   pub room : (thread : ℕ) → IsPass script.layout thread → rooms_of (commands_of thread script.lines) ≤ 64
 
 -- Why bytes are not played: a line has a fault, or they spell a script that is not built; want of memory has no cause.
-abbrev pub IsRefused : List ℕ → Status → Type 0
-IsRefused bytes (ScriptFault line kind) = IsFault bytes (line, kind)
-IsRefused bytes NotBuilt = (script : Reading) × IsScript bytes script × (¬ (IsBuilt script))
-IsRefused bytes OutOfMemory = Unit {0}
-IsRefused bytes _ = ⊥
+abbrev pub IsRefused : Copying → List ℕ → Status → Type 0
+IsRefused copier bytes (ScriptFault line kind) = IsFault bytes (line, kind)
+IsRefused copier bytes NotBuilt = (script : Reading) × IsScript bytes script × (¬ (IsBuilt copier script))
+IsRefused copier bytes OutOfMemory = Unit {0}
+IsRefused copier bytes _ = ⊥

@@ -9,14 +9,15 @@ use Rattle.heap_script.specs.Grammar.{Fault}
 use Rattle.heap_script.specs.Allowed.{IsAllowed}
 use Rattle.gc_cycle.specs.declared.schedule.Schedule.TheVariants.{Solo}
 use Rattle.heap_history.specs.Arranged.{shown}
-use Rattle.barriers.specs.declared.read.ReadMachine.{ReadMachine}
-use Rattle.barriers.specs.declared.write.WriteMachine.{WriteMachine}
-use Rattle.barriers.specs.declared.exchange.ExchangeMachine.{ExchangeMachine}
+use Rattle.barriers.specs.Kits.{Kit, Stepping}
+use Rattle.chicken_tags.specs.Chickens.{kit_of_chicken, steps_of_chicken}
 use Rattle.at_rest.specs.Knowing.{kit_at_rest}
 use Rattle.at_rest.specs.Rests.{steps_at_rest}
 use Rattle.gc_cycle.specs.Worlds.{State, opening_state}
 use Rattle.gc_cycle.specs.Runs.{run_of, is_over, enough_steps}
 use Rattle.gc_cycle.specs.Shows.{Shows}
+use Rattle.gc_tool.specs.declared.forms.Copying.{Copying}
+use Rattle.gc_tool.specs.declared.forms.Copying.TheVariants as copying
 use Rattle.gc_tool.specs.declared.forms.Replay.{Replay}
 use Rattle.gc_tool.specs.declared.status.Status.{Status}
 use Rattle.gc_tool.specs.declared.status.Status.TheVariants.{Done, Usage, ReadFault, TooLong, ScriptFault, WriteFault, StepsSpent, OutOfMemory, NotBuilt}
@@ -24,41 +25,61 @@ use Rattle.gc_tool.specs.Texts.{replay_text}
 use Rattle.gc_tool.specs.Forms.{request_of, IsBuilt}
 use Rattle.gc_tool.specs.Outside.{ReadsAll, Rose}
 
--- ---- a replay
+-- ---- a replay, over any copier
 
--- a world over the copier that moves nothing
-abbrev pub RestWorld : Type 0
-RestWorld = State ReadMachine WriteMachine ExchangeMachine
+module _ {R W E M : Type 0} (kit : Kit R W E M) (by : Stepping R W E M) where
+  -- the world of a script after at most so many steps under the schedule
+  abbrev pub world_after : Reading → Replay → State R W E M
+  world_after script replay = run_of kit by replay.schedule replay.steps (opening_state kit script)
 
--- the world of a script after at most so many steps under the schedule
-abbrev pub world_after : Reading → Replay → RestWorld
-world_after script replay = run_of kit_at_rest steps_at_rest replay.schedule replay.steps (opening_state kit_at_rest script)
+  -- all threads of the script and the collector end within the steps
+  abbrev pub all_end : Reading → Replay → Bool
+  all_end script replay = is_over kit by (world_after script replay)
 
--- all threads of the script and the collector end within the steps
+  -- what this world tells: the entries of its history, the refused tries, and the answers
+  abbrev pub entries_of : State R W E M → List Entry
+  entries_of w = shown w.told.log
+
+  abbrev pub text_of_world : State R W E M → List ℕ
+  text_of_world w = replay_text (entries_of w) w.told.agains w.told.answers
+
+  -- A text of a world: it tells what the world shows.
+  pub record IsTextOf (w : State R W E M) (text : List ℕ) : Type 0 where
+    pub told : text ≡ text_of_world w
+    pub shows : Shows kit by w (entries_of w)
+
+  -- The output of a replay: all parties end within its steps, and the text is that of its world. A heap whose objects never
+  -- move accepts the world's entries, and the world's answers are allowed for the script and for the changes among them.
+  -- Each thread's calls stand among the entries in the order of its commands, where their fronts say.
+  pub record IsOutputOver (script : Reading) (replay : Replay) (text : List ℕ) : Type 0 where
+    pub ends : all_end script replay ≡ true
+    pub told : text ≡ text_of_world (world_after script replay)
+    pub accepted : IsAccepted opening (entries_of (world_after script replay))
+    pub allowed : IsAllowed script (changes (entries_of (world_after script replay))) (let w = world_after script replay in w.told.answers)
+    pub shows : Shows kit by (world_after script replay) (entries_of (world_after script replay))
+
+  -- why it has no output: its steps were spent and a party has not ended; or memory ran out
+  abbrev pub IsStopOver : Reading → Replay → Status → Type 0
+  IsStopOver script replay (StepsSpent n) = (n ≡ replay.steps) × (all_end script replay ≡ false)
+  IsStopOver script replay OutOfMemory = Unit {0}
+  IsStopOver script replay _ = ⊥
+
+-- ---- a replay with its copier
+
+-- with `stopless` objects are never moved, and the copier is the one that moves nothing
+abbrev pub ends_with : Copying → Reading → Replay → Bool
+ends_with copying.Stopless = all_end kit_at_rest steps_at_rest
+ends_with copying.Chicken = all_end kit_of_chicken steps_of_chicken
+
 abbrev pub ends_within : Reading → Replay → Bool
-ends_within script replay = is_over kit_at_rest steps_at_rest (world_after script replay)
+ends_within script replay = ends_with replay.copier script replay
 
--- what this world tells: the entries of its history, the refused tries, and the answers
-abbrev pub entries_of : RestWorld → List Entry
-entries_of w = shown w.told.log
+abbrev pub IsOutputWith : Copying → Reading → Replay → List ℕ → Type 0
+IsOutputWith copying.Stopless = IsOutputOver kit_at_rest steps_at_rest
+IsOutputWith copying.Chicken = IsOutputOver kit_of_chicken steps_of_chicken
 
-abbrev pub text_of_world : RestWorld → List ℕ
-text_of_world w = replay_text (entries_of w) w.told.agains w.told.answers
-
--- A text of a world: it tells what the world shows.
-pub record IsTextOf (w : RestWorld) (text : List ℕ) : Type 0 where
-  pub told : text ≡ text_of_world w
-  pub shows : Shows kit_at_rest steps_at_rest w (entries_of w)
-
--- The output of a replay: all parties end within its steps, and the text is that of its world. A heap whose objects never
--- move accepts the world's entries, and the world's answers are allowed for the script and for the changes among them.
--- Each thread's calls stand among the entries in the order of its commands, where their fronts say.
-pub record IsOutput (script : Reading) (replay : Replay) (text : List ℕ) : Type 0 where
-  pub ends : ends_within script replay ≡ true
-  pub told : text ≡ text_of_world (world_after script replay)
-  pub accepted : IsAccepted opening (entries_of (world_after script replay))
-  pub allowed : IsAllowed script (changes (entries_of (world_after script replay))) (let w = world_after script replay in w.told.answers)
-  pub shows : Shows kit_at_rest steps_at_rest (world_after script replay) (entries_of (world_after script replay))
+abbrev pub IsOutput : Reading → Replay → List ℕ → Type 0
+IsOutput script replay text = IsOutputWith replay.copier script replay text
 
 -- A replay is too short: a party has not ended within its steps. With `solo` they are fewer than enough.
 pub record IsShort (script : Reading) (replay : Replay) : Type 0 where
@@ -73,12 +94,12 @@ IsStop script replay _ = ⊥
 
 -- ---- the outside
 
--- the source was read to its end, and its bytes spell this script, which the program plays
-pub record ReadsScript (old new : Option (List ℕ)) (script : Reading) : Type 0 where
+-- the source was read to its end, and its bytes spell this script, which is played with this copier
+pub record ReadsScript (copier : Copying) (old new : Option (List ℕ)) (script : Reading) : Type 0 where
   pub bytes : List ℕ
   pub all : ReadsAll old new bytes
   pub spells : IsScript bytes script
-  pub built : IsBuilt script
+  pub built : IsBuilt copier script
 
 -- the source was read to its end, and the first line with a fault is this one
 pub record ReadsFault (old new : Option (List ℕ)) (fault : Fault) : Type 0 where
@@ -86,18 +107,18 @@ pub record ReadsFault (old new : Option (List ℕ)) (fault : Fault) : Type 0 whe
   pub all : ReadsAll old new bytes
   pub is : IsFault bytes fault
 
--- the source was read to its end, and its bytes spell a script that the program does not play yet
-pub record ReadsUnbuilt (old new : Option (List ℕ)) : Type 0 where
+-- the source was read to its end, and its bytes spell a script that is not played with this copier yet
+pub record ReadsUnbuilt (copier : Copying) (old new : Option (List ℕ)) : Type 0 where
   pub bytes : List ℕ
   pub all : ReadsAll old new bytes
   pub script : Reading
   pub spells : IsScript bytes script
-  pub unbuilt : ¬ (IsBuilt script)
+  pub unbuilt : ¬ (IsBuilt copier script)
 
 -- the source was read to its end, and the replay is too short for its script
 pub record ReadsLonger (old new : Option (List ℕ)) (replay : Replay) : Type 0 where
   pub script : Reading
-  pub read : ReadsScript old new script
+  pub read : ReadsScript replay.copier old new script
   pub short : IsShort script replay
 
 -- The cause of a status with which nothing is written, where this replay was asked for. What is read is told by the bytes that the
@@ -106,7 +127,7 @@ abbrev pub IsCause : Replay → Status → Option (List ℕ) → Option (List �
 IsCause replay ReadFault old new faults_old faults_new = Rose faults_old faults_new
 IsCause replay (ScriptFault line kind) old new faults_old faults_new = ReadsFault old new (line, kind)
 IsCause replay (StepsSpent n) old new faults_old faults_new = (n ≡ replay.steps) × ReadsLonger old new replay
-IsCause replay NotBuilt old new faults_old faults_new = ReadsUnbuilt old new
+IsCause replay NotBuilt old new faults_old faults_new = ReadsUnbuilt replay.copier old new
 IsCause replay TooLong old new faults_old faults_new = Unit {0}
 IsCause replay OutOfMemory old new faults_old faults_new = Unit {0}
 IsCause replay (Usage index) old new faults_old faults_new = ⊥
@@ -118,7 +139,7 @@ pub record Asks (words : List (List ℕ)) (old new : Option (List ℕ)) (text : 
   pub script : Reading
   pub replay : Replay
   pub replay_is : request_of words ≡ Ok replay
-  pub read : ReadsScript old new script
+  pub read : ReadsScript replay.copier old new script
   pub output : IsOutput script replay text
 
 -- The words ask for so many steps of the script that was read to the end of the source, and a party has not ended within them.
@@ -140,7 +161,7 @@ status_after script replay = if ends_within script replay then Done else StepsSp
 
 -- The status of a replay of these bytes, where nothing fails: of a script that is played, of another one, and of bytes with a fault.
 pub record Answers (bytes : List ℕ) (replay : Replay) (status : Status) : Type 0 where
-  pub played : (script : Reading) → IsScript bytes script → IsBuilt script → status ≡ status_after script replay
-  pub enough : (script : Reading) → IsScript bytes script → IsBuilt script → replay.schedule ≡ Solo → enough_steps script ≤ replay.steps → status ≡ Done
-  pub unbuilt : (script : Reading) → IsScript bytes script → ¬ (IsBuilt script) → status ≡ NotBuilt
+  pub played : (script : Reading) → IsScript bytes script → IsBuilt replay.copier script → status ≡ status_after script replay
+  pub enough : (script : Reading) → IsScript bytes script → IsBuilt replay.copier script → replay.schedule ≡ Solo → enough_steps script ≤ replay.steps → status ≡ Done
+  pub unbuilt : (script : Reading) → IsScript bytes script → ¬ (IsBuilt replay.copier script) → status ≡ NotBuilt
   pub fault : (fault : Fault) → IsFault bytes fault → status ≡ ScriptFault fault.0 fault.1

@@ -46,9 +46,18 @@ enum Place {
     MaybeNumber,
 }
 
+/// The copiers whose replays are built.
+#[derive(Clone, Copy, Debug, PartialEq, Eq)]
+pub enum Copying {
+    /// `stopless`, which is played by a copier that moves nothing, where a script has no cycle.
+    Stopless,
+    Chicken,
+}
+
 /// A replay that the words ask for.
 #[derive(Clone, Copy, Debug, PartialEq, Eq)]
 pub struct Replay {
+    pub copier: Copying,
     pub schedule: Schedule,
     pub steps: u64,
 }
@@ -82,6 +91,17 @@ fn schedule_of(word: &str) -> Option<Schedule>
         "solo" => Some(Schedule::Solo),
         "even" => Some(Schedule::Even),
         _ => seed_of(word).map(Schedule::Drawn),
+    }
+}
+
+/// The copier of this name, if its replays are built.
+fn copying_of(word: &str) -> Option<Copying>
+    ensures { result ≡ grammar.copying_of word.now }
+{
+    match word {
+        "stopless" => Some(Copying::Stopless),
+        "chicken" => Some(Copying::Chicken),
+        _ => None,
     }
 }
 
@@ -172,14 +192,14 @@ fn usage_of(words: &[String]) -> Option<u32>
     }
 }
 
-/// What `replay stopless SCHEDULE STEPS` asks for; None for other words.
-fn stopless_replay(words: &[String]) -> Option<Replay>
-    ensures { result ≡ grammar.stopless_replay (map string_bytes words.now) }
+/// What `replay COPIER SCHEDULE STEPS` asks for, where the copier's replays are built; None for other words.
+fn built_replay(words: &[String]) -> Option<Replay>
+    ensures { result ≡ grammar.built_replay (map string_bytes words.now) }
 {
     match words {
-        [command, copier, schedule, steps]
-            if command.as_str() == "replay" && copier.as_str() == "stopless" => {
+        [command, copier, schedule, steps] if command.as_str() == "replay" => {
             Some(Replay {
+                copier: copying_of(copier)?,
                 schedule: schedule_of(schedule)?,
                 steps: steps_of(steps)?,
             })
@@ -198,41 +218,51 @@ pub fn replay_of(words: &[String]) -> Result<Replay, Status>
 {
     match usage_of(words) {
         Some(index) => Err(Status::Usage { index }),
-        None => stopless_replay(words).ok_or(Status::NotBuilt),
+        None => built_replay(words).ok_or(Status::NotBuilt),
     }
 }
 
-fn is_built(script: &Script) -> bool
-    requires { Fits script.now }
-    ensures { IsTrue result ↔ grammar.IsBuilt script.now }
+/// Whether the cycles of a script are played with this copier.
+fn has_cycles_for(copier: Copying, script: &Script) -> bool
+    ensures { IsTrue result ↔ (script.now.cycles ≤ grammar.most_cycles copier) }
 {
-    World::<AtRest>::has_room_for(script)
+    match copier {
+        Copying::Stopless => script.cycles == 0,
+        Copying::Chicken => script.cycles <= 1,
+    }
 }
 
-/// The script that the bytes spell.
+fn is_built(copier: Copying, script: &Script) -> bool
+    requires { Fits script.now }
+    ensures { IsTrue result ↔ grammar.IsBuilt copier script.now }
+{
+    has_cycles_for(copier, script) && World::<AtRest>::has_room_for(script)
+}
+
+/// The script that the bytes spell, to be played with this copier.
 ///
 /// # Errors
 ///
 /// `ScriptFault` with the first line that is at fault, `NotBuilt` for a script that is not built, and `OutOfMemory`,
 /// which has no cause of its own.
-pub fn read_built(alloc: Global, bytes: &[u8]) -> Result<Script, Status>
+pub fn read_built(alloc: Global, copier: Copying, bytes: &[u8]) -> Result<Script, Status>
     requires { length bytes.now < 2 ^ 31 }
 
     // Each answer has its cause.
-    ensures ok { IfOk result (λ script. IsScript bytes.now script × grammar.IsBuilt script) }
-    ensures err { IfErr result (grammar.IsRefused bytes.now) }
+    ensures ok { IfOk result (λ script. IsScript bytes.now script × grammar.IsBuilt copier script) }
+    ensures err { IfErr result (grammar.IsRefused copier bytes.now) }
 
     // Each cause has its answer, unless memory runs out.
-    ensures built { (script : Reading) → IsScript bytes.now script → grammar.IsBuilt script
+    ensures built { (script : Reading) → IsScript bytes.now script → grammar.IsBuilt copier script
         → (result ≡ Ok script) ⊎ (result ≡ Err Status.OutOfMemory) }
-    ensures not_built { (script : Reading) → IsScript bytes.now script → ¬ (grammar.IsBuilt script)
+    ensures not_built { (script : Reading) → IsScript bytes.now script → ¬ (grammar.IsBuilt copier script)
         → (result ≡ Err Status.NotBuilt) ⊎ (result ≡ Err Status.OutOfMemory) }
     ensures fault { (f : Fault) → IsFault bytes.now f
         → (result ≡ Err (Status.ScriptFault f.0 f.1)) ⊎ (result ≡ Err Status.OutOfMemory) }
 {
     match read_script(alloc, bytes) {
         Ok(script) => {
-            if is_built(&script) {
+            if is_built(copier, &script) {
                 Ok(script)
             } else {
                 Err(Status::NotBuilt)

@@ -4,13 +4,12 @@ ghost use Rattle.std.specs.Prelude.{◌≡◌, ◌≢◌, ◌≤◌, ◌<◌, �
 ghost use Rattle.std.specs.Io.KnownBytes.{Appends};
 ghost use Rattle.heap_script.specs.Scripts.{Reading};
 ghost use Rattle.heap_script.specs.declared.fault.FaultKind.{FaultKind};
-ghost use Rattle.at_rest.specs.Knowing.{kit_at_rest};
 ghost use Rattle.gc_cycle.specs.Lawful.{Lawful};
 ghost use Rattle.gc_tool.specs.Outside.{Rose, Gave, AppendsPrefix};
 ghost use Rattle.gc_tool.specs.Forms.{request_of, IsBuilt};
-ghost use Rattle.gc_tool.specs.Runs.{IsOutput, IsStop, IsCause, ReadsScript, ReadsFault, ReadsUnbuilt, Asks, Spends, IsHonest, Answers, IsTextOf};
+ghost use Rattle.gc_tool.specs.Runs.{IsOutput, IsOutputOver, IsStop, IsStopOver, IsCause, ReadsScript, ReadsFault, ReadsUnbuilt, Asks, Spends, IsHonest, Answers, IsTextOf};
 
-use crate::forms::{Replay, read_built, replay_of};
+use crate::forms::{Copying, Replay, read_built, replay_of};
 use crate::reading::{INPUT_LIMIT, read_all};
 use crate::sink::Sink;
 use crate::source::Source;
@@ -18,7 +17,9 @@ use crate::status::Status;
 use crate::texts::print_replay;
 use crate::writing::give_all;
 use at_rest::AtRest;
-use gc_cycle::World;
+use barriers::Copier;
+use chicken_tags::Chicken;
+use gc_cycle::{Steps, World};
 use heap_script::Script;
 use std::alloc::Global;
 
@@ -26,9 +27,14 @@ use std::alloc::Global;
 const SALT: u64 = 0;
 
 /// The text of a world's history, refused tries and answers.
-fn text_of(alloc: Global, world: &World<AtRest>) -> Result<Vec<u8>, Status>
-    requires { Lawful kit_at_rest world.now }
-    ensures text { IfOk result (λ text. IsTextOf world.now text.items) }
+fn text_of<P: Copier>(alloc: Global, world: &World<P>) -> Result<Vec<u8>, Status>
+where
+    P::Read: Copy,
+    P::Write: Copy,
+    P::Exchange: Copy,
+    P::Move: Copy,
+    requires { Lawful P.kit world.now }
+    ensures text { IfOk result (λ text. IsTextOf P.kit ⟦<P as Steps>⟧.by world.now text.items) }
     ensures memory { IfErr result (λ e. e ≡ Status.OutOfMemory) }
 {
     let history = world.history(alloc)?;
@@ -36,23 +42,42 @@ fn text_of(alloc: Global, world: &World<AtRest>) -> Result<Vec<u8>, Status>
     Ok(text)
 }
 
-/// Plays the script, and gives the text of what happened.
-fn play(alloc: Global, script: &Script, replay: Replay) -> Result<Vec<u8>, Status>
-    requires { IsBuilt script.now }
-    ensures output { IfOk result (λ text. IsOutput script.now replay text.items) }
-    ensures stop { IfErr result (IsStop script.now replay) }
+/// Plays the script with this copier, and gives the text of what happened.
+fn play_with<P: Copier>(alloc: Global, script: &Script, replay: Replay) -> Result<Vec<u8>, Status>
+where
+    P::Read: Copy,
+    P::Write: Copy,
+    P::Exchange: Copy,
+    P::Move: Copy,
+    requires { IsBuilt replay.copier script.now }
+    ensures output { IfOk result (λ text. IsOutputOver P.kit ⟦<P as Steps>⟧.by script.now replay text.items) }
+    ensures stop { IfErr result (IsStopOver P.kit ⟦<P as Steps>⟧.by script.now replay) }
 {
-    let mut world = World::<AtRest>::new(alloc, script, SALT)?;
+    let mut world = World::<P>::new(alloc, script, SALT)?;
     match world.run(replay.schedule, replay.steps) {
         Ok(()) => text_of(alloc, &world),
         Err(spent) => Err(Status::StepsSpent { n: spent.n }),
     }
 }
 
+/// Plays the script, and gives the text of what happened. Without a cycle no object is moved, so `stopless` is played by
+/// the copier that moves none.
+fn play(alloc: Global, script: &Script, replay: Replay) -> Result<Vec<u8>, Status>
+    requires { IsBuilt replay.copier script.now }
+    ensures output { IfOk result (λ text. IsOutput script.now replay text.items) }
+    ensures stop { IfErr result (IsStop script.now replay) }
+{
+    match replay.copier {
+        Copying::Stopless => play_with::<AtRest>(alloc, script, replay),
+        Copying::Chicken => play_with::<Chicken>(alloc, script, replay),
+    }
+}
+
 /// Reads a script to the end, and plays it.
 fn output_of<S: Source>(alloc: Global, replay: Replay, source: &mut S) -> Result<Vec<u8>, Status>
     ensures output { IfOk result (λ text. (script : Reading)
-        × ReadsScript (S.left source.old) (S.left source.new) script × IsOutput script replay text.items) }
+        × ReadsScript replay.copier (S.left source.old) (S.left source.new) script
+        × IsOutput script replay text.items) }
     ensures cause { IfErr result (λ status. IsCause replay status (S.left source.old) (S.left source.new)
         (S.faults source.old) (S.faults source.new)) }
     ensures too_long { Gave (S.left source.old) (S.left source.new)
@@ -60,11 +85,11 @@ fn output_of<S: Source>(alloc: Global, replay: Replay, source: &mut S) -> Result
     ensures never_falls { S.faults source.old ≤ S.faults source.new }
 {
     let bytes = read_all(alloc, source)?;
-    let script = read_built(alloc, &bytes)?;
+    let script = read_built(alloc, replay.copier, &bytes)?;
     play(alloc, &script, replay)
 }
 
-/// Plays `replay stopless SCHEDULE STEPS`: reads the source to its end, plays the script that it spells, and writes the
+/// Plays `replay COPIER SCHEDULE STEPS` for the copiers that are built: reads the source to its end, plays the script that it spells, and writes the
 /// history, the refused tries and the answers, as one piece. The words come first, then the reading, the script, the
 /// play and the writing; `OutOfMemory` has no cause of its own.
 pub fn run_plain<S: Source, K: Sink>(
@@ -92,7 +117,8 @@ pub fn run_plain<S: Source, K: Sink>(
     // Why there is no output.
     ensures not_built { result ≡ Status.NotBuilt
         → (request_of (map string_bytes words.now) ≡ Err Status.NotBuilt)
-        ⊎ ReadsUnbuilt (S.left source.old) (S.left source.new) }
+        ⊎ ((replay : Replay) × (request_of (map string_bytes words.now) ≡ Ok replay)
+        × ReadsUnbuilt replay.copier (S.left source.old) (S.left source.new)) }
     ensures read_fault { result ≡ Status.ReadFault → Rose (S.faults source.old) (S.faults source.new) }
     ensures too_long { Gave (S.left source.old) (S.left source.new)
         (λ given. (result ≡ Status.TooLong) ↔ (INPUT_LIMIT < length given)) }

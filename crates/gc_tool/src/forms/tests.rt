@@ -10,8 +10,12 @@ fn words_of(alloc: Global, text: &str) -> Result<Vec<String>, Fail> {
     Ok(words)
 }
 
-fn played(schedule: Schedule, steps: u64) -> Result<Replay, Status> {
-    Ok(Replay { schedule, steps })
+fn played(copier: Copying, schedule: Schedule, steps: u64) -> Result<Replay, Status> {
+    Ok(Replay {
+        copier,
+        schedule,
+        steps,
+    })
 }
 
 fn usage(index: u32) -> Result<Replay, Status> {
@@ -34,16 +38,23 @@ fn tells_forms_from_other_words(rt: HostRuntime) -> Result<(), Fail> {
         ("load chicken 18446744073709551615", not_built),
         ("load chicken", usage(2)),
         ("load chicken 18446744073709551616", usage(2)),
-        ("replay stopless solo 1", played(Schedule::Solo, 1)),
+        (
+            "replay stopless solo 1",
+            played(Copying::Stopless, Schedule::Solo, 1),
+        ),
         (
             "replay stopless even 1000000000",
-            played(Schedule::Even, 1_000_000_000),
+            played(Copying::Stopless, Schedule::Even, 1_000_000_000),
         ),
         (
             "replay stopless 007 00000000000000000010",
-            played(Schedule::Drawn(7), 10),
+            played(Copying::Stopless, Schedule::Drawn(7), 10),
         ),
-        ("replay chicken solo 10", not_built),
+        (
+            "replay chicken solo 10",
+            played(Copying::Chicken, Schedule::Solo, 10),
+        ),
+        ("replay clover solo 10", not_built),
         ("replay clover solo", usage(3)),
         ("replay clover solo 0", usage(3)),
         ("replay stopless solo 1000000001", usage(3)),
@@ -67,34 +78,48 @@ fn reads_scripts_that_are_built(rt: HostRuntime) -> Result<(), Fail> {
     let alloc = rt.alloc();
     let fault = |line, kind| Err(Status::ScriptFault { line, kind });
 
-    // The input, and the number of commands or why it is not played.
+    // The copier, the input, and the number of commands or why it is not played.
     let cases = [
         (
+            Copying::Stopless,
             b"heap 2 threads 4 quota 8 pool 256 wide 0 cycles\n1 new a 30\n2 new a 30\n1 new b 30\n2 cas a h.0 0 a\n".as_slice(),
             Ok(4),
         ),
         (
+            Copying::Stopless,
             b"; all\n\nheap 8 threads 4 quota 32 pool 256 wide 0 cycles",
             Ok(0),
         ),
         (
-            b"heap 1 threads 4 quota 8 pool 256 wide 0 cycles\n1 new a 30\n1 new a 30\n1 new a 1\n",
+            Copying::Chicken,
+            b"heap 1 threads 4 quota 8 pool 256 wide 1 cycles\n1 new a 30\n1 new a 30\n1 new a 1\n",
             Ok(3),
         ),
         (
+            Copying::Chicken,
             b"heap 1 threads 4 quota 8 pool 256 wide 0 cycles\n1 new a 30\n1 new a 30\n1 new a 2\n",
             Err(Status::NotBuilt),
         ),
-        (b"heap 1 threads 4 quota 8 pool 256 wide 64 cycles\n", Ok(0)),
         (
+            Copying::Chicken,
+            b"heap 1 threads 4 quota 8 pool 256 wide 2 cycles\n",
+            Err(Status::NotBuilt),
+        ),
+        (
+            Copying::Stopless,
+            b"heap 1 threads 4 quota 8 pool 256 wide 1 cycles\n",
+            Err(Status::NotBuilt),
+        ),
+        (
+            Copying::Chicken,
             b"heap 1 threads 4 quota 8 pool 256 wide 2 cycles\n2 poll\n",
             fault(2, FaultKind::BadThread),
         ),
-        (b"", fault(1, FaultKind::NoHeapLine)),
+        (Copying::Stopless, b"", fault(1, FaultKind::NoHeapLine)),
     ];
-    for (input, answer) in cases {
+    for (copier, input, answer) in cases {
         assert_eq!(rt;
-            read_built(alloc, input).map(|script| script.lines.len()),
+            read_built(alloc, copier, input).map(|script| script.lines.len()),
             answer
         );
     }

@@ -47,6 +47,12 @@ const RACE: &str =
 const RACE_OUTPUT: &str =
     "entry 1 cas #0.1.0 0 1 done\nentry 2 cas #0.1.0 0 2 differs 1\nanswer 1 1 done\nanswer 2 1 differs 1\nend\n";
 
+const CYCLE: &str =
+    "heap 1 threads 1 quota 2 pool 16 wide 1 cycles\n1 put h.7 5\n1 get a h.7\n1 cas b h.7 5 6\n1 get c h.7\n";
+
+const CYCLE_OUTPUT: &str =
+    "entry 1 put #0.1.7 5 wrote\nentry 1 get #0.1.7 got 5\nentry 1 cas #0.1.7 5 6 done\nentry 1 get #0.1.7 got 6\nanswer 1 1 ok\nanswer 1 2 5\nanswer 1 3 done\nanswer 1 4 6\nend\n";
+
 // Plays an input by these words, and compares the status and what was written.
 fn expect_play(
     rt: &impl Abort,
@@ -90,6 +96,19 @@ fn plays_a_script_or_says_why_not(rt: HostRuntime) -> Result<(), Fail> {
             RACE.as_bytes(),
             Status::Done,
             RACE_OUTPUT.as_bytes(),
+        ),
+        ("replay chicken solo 20", SESSION, Status::Done, OUTPUT),
+        (
+            "replay chicken even 1000",
+            CYCLE.as_bytes(),
+            Status::Done,
+            CYCLE_OUTPUT.as_bytes(),
+        ),
+        (
+            "replay stopless even 1000",
+            CYCLE.as_bytes(),
+            Status::NotBuilt,
+            b"",
         ),
     ];
     for (words, input, status, output) in cases {
@@ -148,7 +167,7 @@ fn reads_nothing_for_other_words(rt: HostRuntime) -> Result<(), Fail> {
         ("", Status::Usage { index: 0 }),
         ("run brooks", Status::Usage { index: 1 }),
         ("replay stopless solo 0", Status::Usage { index: 3 }),
-        ("replay chicken solo 10", Status::NotBuilt),
+        ("replay clover solo 10", Status::NotBuilt),
         ("check", Status::NotBuilt),
     ];
     for (words, status) in cases {

@@ -1,16 +1,29 @@
-use Rattle.std.proofs.Common.{rules}
-use Rattle.std.proofs.lemmas.Result.{IfOk-weaker}
-use Rattle.gc_tool.proofs.Headline.{printed_output, is_short, ok_is}
+use Rattle.std.proofs.lemmas.Result.{IfOk-weaker, IfErr-weaker}
+use Rattle.at_rest.specs.Knowing.{kit_at_rest}
+use Rattle.at_rest.specs.Rests.{steps_at_rest, laws_at_rest}
+use Rattle.chicken_tags.specs.Chickens.{kit_of_chicken, steps_of_chicken, laws_of_chicken}
+use Rattle.gc_cycle.proofs.solo.AloneAtRest.{rest_plays_alone}
+use Rattle.gc_cycle.proofs.solo.AloneChicken.{chicken_plays_alone}
+use Rattle.gc_tool.specs.declared.forms.Copying.TheVariants.{Stopless, Chicken}
+use Rattle.gc_tool.proofs.Headline.{ends_as, output_as, stop_of}
 use Rattle.gc_tool.proofs.run.play.Goals as goal
 
-pub returns-in-Ok-clause-output : goal.returns-in-Ok-clause-output
-returns-in-Ok-clause-output c =
-    let over = c.run.ensures.ended.0 (ok_is c.run.result _ c.in-Ok.is) in
-    IfOk-weaker c.text_of.result _ _
-    (λ text printed. printed_output c.args.script.now c.args.replay _ _ c.in_ok-world.ensures.opening c.run.ensures.taken c.run.ensures.layout c.run.ensures.commands over text.items printed)
-    c.text_of.ensures.text
+pub returns-in-Stopless-clause-output : goal.returns-in-Stopless-clause-output
+returns-in-Stopless-clause-output c =
+    IfOk-weaker c.play_with.result _ _ (λ text printed. output_as Stopless c.args.script.now c.args.replay text.items c.in-Stopless.is printed) c.play_with.ensures.output
 
-pub returns-clause-stop : goal.returns-clause-stop
-returns-clause-stop c =
-    let short = is_short c.args.script.now c.args.replay _ _ c.in_ok-world.ensures.opening c.run.ensures.taken c.in_ok-world.ensures.lawful in
-    search rules
+pub returns-in-Stopless-clause-stop : goal.returns-in-Stopless-clause-stop
+returns-in-Stopless-clause-stop c =
+    IfErr-weaker c.play_with.result _ _
+    (stop_of kit_at_rest steps_at_rest laws_at_rest rest_plays_alone c.args.replay.copier c.args.script.now c.args.replay c.requires (ends_as Stopless c.args.script.now c.args.replay c.in-Stopless.is))
+    c.play_with.ensures.stop
+
+pub returns-in-Chicken-clause-output : goal.returns-in-Chicken-clause-output
+returns-in-Chicken-clause-output c =
+    IfOk-weaker c.play_with-in-Chicken.result _ _ (λ text printed. output_as Chicken c.args.script.now c.args.replay text.items c.in-Chicken.is printed) c.play_with-in-Chicken.ensures.output
+
+pub returns-in-Chicken-clause-stop : goal.returns-in-Chicken-clause-stop
+returns-in-Chicken-clause-stop c =
+    IfErr-weaker c.play_with-in-Chicken.result _ _
+    (stop_of kit_of_chicken steps_of_chicken laws_of_chicken chicken_plays_alone c.args.replay.copier c.args.script.now c.args.replay c.requires (ends_as Chicken c.args.script.now c.args.replay c.in-Chicken.is))
+    c.play_with-in-Chicken.ensures.stop
