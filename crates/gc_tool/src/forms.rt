@@ -31,7 +31,7 @@ enum Form {
     Make,
 }
 
-/// What a word behind the first has to be.
+/// What a word after the first has to be.
 #[derive(Clone, Copy)]
 enum Place {
     /// `stopless`, `chicken` or `clover`
@@ -124,7 +124,7 @@ fn form_of(word: &str) -> Option<Form>
     }
 }
 
-/// The places of a form behind its first word.
+/// The places of a form after its first word.
 fn places_of(form: Form) -> &'static [Place]
     ensures { result.now ≡ grammar.places_of form }
 {
@@ -155,7 +155,7 @@ fn is_optional(place: Place) -> bool
     matches!(place, Place::MaybeNumber)
 }
 
-/// The index of the first word behind the first one that is wrong or missing.
+/// The index of the first word after the first one that is wrong or missing.
 fn misfit(places: &[Place], later: &[String]) -> Option<u32>
     requires { length places.now ≤ 3 }
     ensures { result ≡ grammar.misfit_from 1 places.now (map string_bytes later.now) }

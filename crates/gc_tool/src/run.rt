@@ -89,9 +89,9 @@ fn output_of<S: Source>(alloc: Global, replay: Replay, source: &mut S) -> Result
     play(alloc, &script, replay)
 }
 
-/// Plays `replay COPIER SCHEDULE STEPS` for the copiers that are built: reads the source to its end, plays the script that it spells, and writes the
-/// history, the refused tries and the answers, as one piece. The words come first, then the reading, the script, the
-/// play and the writing; `OutOfMemory` has no cause of its own.
+/// Plays `replay COPIER SCHEDULE STEPS` for the copiers that are built: reads the source to its end, plays the script
+/// that it spells, and writes the history, the refused tries and the answers, as one piece. The words come first, then
+/// the reading, the script, the play and the writing; `OutOfMemory` has no cause of its own.
 pub fn run_plain<S: Source, K: Sink>(
     alloc: Global,
     words: &[String],
