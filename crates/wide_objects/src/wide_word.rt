@@ -125,6 +125,31 @@ mod tests {
         }
     }
 
+    // The greatest number, and the link with the greatest birth number and address.
+    #[test]
+    #[tactic(auto, unfolding(heap_words::specs::FieldWords::field_of))]
+    fn packs_at_every_limit(rt: HostRuntime) {
+        let number = 0xffff_ffff_ffff;
+        let link = 0x2000_0fff_ffff_ffff;
+        assert_eq!(rt; wide(Status2::InWide, number).pack(), 0x4000_ffff_ffff_ffff);
+        assert_eq!(rt; wide(Status2::InCopy, number).pack(), 0x8000_ffff_ffff_ffff);
+        assert_eq!(rt; wide(Status2::InWide, link).pack(), 0x6000_0fff_ffff_ffff);
+        assert_eq!(rt; wide(Status2::InCopy, link).pack(), 0xa000_0fff_ffff_ffff);
+        for (word, want) in [
+            (0x4000_ffff_ffff_ffff, Some(wide(Status2::InWide, number))),
+            (0xa000_0fff_ffff_ffff, Some(wide(Status2::InCopy, link))),
+            (0x8000_0000_0000_0000, Some(wide(Status2::InCopy, 0))),
+            (0x6000_0000_0000_0000, Some(wide(Status2::InWide, 1 << 61))),
+            // One past the greatest number, one past the greatest link, and bits beside InOriginal.
+            (0x8001_0000_0000_0000, None),
+            (0x6000_1000_0000_0000, None),
+            (0x1, None),
+            (0xffff_ffff_ffff_ffff, None),
+        ] {
+            assert_eq!(rt; WideWord::unpack(word), want, "at {word}");
+        }
+    }
+
     #[test]
     fn a_status_rises_until_the_release(rt: HostRuntime) {
         let none = wide(Status2::InOriginal, 0);
