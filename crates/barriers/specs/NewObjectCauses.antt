@@ -1,13 +1,14 @@
 -- Why the making of an object ends as it does, whatever others do meanwhile.
-use Rattle.std.specs.Prelude.{◌≡◌, ◌≢◌, ℕ, ◌+◌, ◌<◌, ◌≤◌, ◌==◌, Bool, true, false, List, [], ◌∷◌, Option, Some, None, refl, if◌then◌else◌, ◌⊎◌}
+use Rattle.std.specs.Prelude.{◌≡◌, ◌≢◌, ℕ, ◌+◌, ◌<◌, ◌≤◌, ◌==◌, Bool, true, false, List, [], ◌∷◌, Option, Some, None, IsSome, refl, if◌then◌else◌, ◌⊎◌, ◌++◌}
 use Rattle.std.specs.Option.{ForSome}
 use Rattle.std.proofs.Common.{sym, subst, ap, arith, ◌∙◌, inl, inr}
 use Rattle.std.proofs.lemmas.Bool.{eqb-true, eqb-false, leb-false}
+use Rattle.std.proofs.lemmas.Bool.Decides.{nat_tests}
 use Rattle.call_steps.specs.declared.step.Step.TheVariants.{Store}
 use Rattle.heap_words.specs.Layouts.{Sizes, IsLayout, IsPass, regions_of, region_at, first_word}
 use Rattle.heap_words.specs.PlaceLaws.{regions_of-bound}
 use Rattle.heap_words.specs.declared.limits.TheConstants.{BIRTHS_OF_PASS, MOST_REGIONS, REGION_WORDS}
-use Rattle.heap_words.specs.Packing.{fits_behind}
+use Rattle.heap_words.specs.Packing.{fits_behind, packing}
 use Rattle.object_headers.specs.Headers.{word_of_header}
 use Rattle.handshakes.specs.declared.pass_view.PassView.{PassView}
 use Rattle.space_reclaim.specs.declared.claim.Round.{Round}
@@ -15,6 +16,7 @@ use Rattle.space_reclaim.specs.declared.claim.ClaimEnd.{ClaimEnd}
 use Rattle.space_reclaim.specs.declared.claim.ClaimEnd.TheVariants.{Claimed, NoneFree}
 use Rattle.space_reclaim.specs.declared.claim.ClaimMachine.{ClaimMachine}
 use Rattle.space_reclaim.specs.declared.claim.ClaimMachine.TheVariants as claim
+use Rattle.space_reclaim.specs.NextFit.{used_after_all, packing_grows}
 use Rattle.space_reclaim.specs.OwnRegions.{IsOwn}
 use Rattle.space_reclaim.specs.Claims as claims
 use Rattle.space_reclaim.specs.ClaimRuns as claim_runs
@@ -54,11 +56,16 @@ pub record IsMade (l : Sizes) (pass : ℕ) (had : Option ℕ) (made len : ℕ) (
   pub stored : Stored m found at (word_of_header (new_header len birth))
   pub last : EndsRegion l pass had at len next.region next.used
 
--- what it says that no region was free: the object needs one, and each of the pass's own, so many as the quota, was found in use
+-- objects of these lens, laid one after another, need as many regions as the quota, and the last one ends where the room does
+abbrev pub FillsQuota : Sizes → Room → List ℕ → Type 0
+FillsQuota l room lens = IsSome room.region × (l.quota ≤ packing lens) × (used_after_all REGION_WORDS lens ≡ room.used)
+
+-- what it says that no region was free: the object needs one, each of the pass's own, so many as the quota, was found in use, and where the pass's objects have filled them, they and this one need more
 pub record IsSpent (l : Sizes) (pass : ℕ) (room : Room) (len : ℕ) (m : NewMachine) (found : List ℕ) (regions : ℕ) : Type 0 where
   pub needs : NeedsRegion room.region room.used len
   pub quota : regions ≡ l.quota
   pub in_use : (region : ℕ) → IsOwn l pass region → FoundInUse m found (region_at l region)
+  pub needs_more : (lens : List ℕ) → FillsQuota l room lens → l.quota < packing (lens ++ (len ∷ []))
 
 -- what the end says of the words that the steps found
 abbrev pub MakesFor : Sizes → ℕ → Room → ℕ → ℕ → NewMachine → List ℕ → NewEnd → Type 0
@@ -165,6 +172,20 @@ ends_claimed l pass made len region old fits is own =
     let below : region < regions_of l = own_below l pass region fits is own in
     (inr own, omega arith)
 
+past_region : (o : Option ℕ) (used len : ℕ) → NeedsRegion o used len → IsSome o → REGION_WORDS < used + len + 1
+past_region None used len needs some = absurd cc
+past_region (Some region) used len needs some = needs
+
+-- an object that does not fit the last of the filled regions needs one more
+more_than_quota : (l : Sizes) (room : Room) (len : ℕ) (lens : List ℕ) → NeedsRegion room.region room.used len → FillsQuota l room lens → l.quota < packing (lens ++ (len ∷ []))
+more_than_quota l room len lens needs fills =
+    let past : REGION_WORDS < room.used + len + 1 = past_region room.region room.used len needs fills.0 in
+    let same = fills.2 in
+    let full : fits_behind (used_after_all REGION_WORDS lens) len ≡ false = grind (arith, nat_tests) in
+    let grows = packing_grows lens len full in
+    let filled = fills.1 in
+    omega arith
+
 claimed_makes : (l : Sizes) (pass : ℕ) (room : Room) (made len : ℕ) → IsLayout l → IsPass l pass → NeedsRegion room.region room.used len → (found : List ℕ) (end : NewEnd) → ClaimsFor (plan_of l pass made len room.region) (claim.Look (claims.round_of l pass room.last)) found end → MakesFor l pass room made len (claims_for l pass room made len) found end
 claimed_makes l pass room made len fits pass_is needs found (Made birth at next) is =
     let cause = ends_with_cause l pass room.last fits in
@@ -181,6 +202,7 @@ claimed_makes l pass room made len fits pass_is needs found (Refused (QuotaSpent
       needs = needs;
       quota = none.0;
       in_use = λ region own. found_by_claim plan (claim.Look (claims.round_of l pass room.last)) found (region_at l region) (none.1 region own);
+      needs_more = λ lens fills. more_than_quota l room len lens needs fills;
     }
 claimed_makes l pass room made len fits pass_is needs found (Refused BirthsSpent) is = absurd is
 

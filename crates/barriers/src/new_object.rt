@@ -241,8 +241,9 @@ impl NewMachine {
         // Whatever others do: the object that it made has the pass's next birth number, its header was stored
         // where it stands, and there it is the last object of the room's region, the one that the pass had or
         // one of its own. The quota is spent only where the object does not fit the pass's region, or there is
-        // none, and each region of the pass's own, so many as the end tells, was found in use. The birth numbers
-        // are spent only after the last object that a pass makes, and then it has ended at once.
+        // none, and each region of the pass's own, so many as the end tells, was found in use: where the pass's
+        // objects have filled them, these and this one need more regions than the quota. The birth numbers are
+        // spent only after the last object that a pass makes, and then it has ended at once.
         ensures cause { MakesWithCause layout.now view.pass room made len result }
     {
         NewMachine::begin(layout, view, room, made, len)

@@ -399,6 +399,29 @@ fn makes_objects(rt: HostRuntime) -> Result<(), Fail> {
     Ok(())
 }
 
+// The first pass has the birth numbers to 786,432, and makes no object after the one with that.
+#[test]
+fn spends_the_birth_numbers(rt: HostRuntime) -> Result<(), Fail> {
+    let layout = Layout::new(2, 3, 4, 5)?;
+    let last = NewEnd::Made {
+        birth: 786_432,
+        at: 287,
+        room: Room {
+            region: Some(4),
+            used: 3,
+            last: Some(4),
+        },
+    };
+    let none = NewEnd::Refused(NewRefusal::BirthsSpent);
+    for (made, steps, end) in [(262_143, 3, last), (262_144, 0, none)] {
+        let mut words = PlainWords::zeros(rt.alloc(), 676)?;
+        let mut machine = NewMachine::new(&layout, PassView { pass: 1, ..PASS }, NO_ROOM, made, 2);
+        assert_eq!(rt; play(&rt, &mut words, &mut machine), steps);
+        assert_eq!(rt; machine.end(), Some(end));
+    }
+    Ok(())
+}
+
 // With each region in use, and with each birth number spent.
 #[test]
 fn makes_no_object(rt: HostRuntime) -> Result<(), Fail> {

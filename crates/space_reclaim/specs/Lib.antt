@@ -4,6 +4,7 @@ pub mod OwnRegions
 pub mod Claims
 pub mod ClaimRuns
 pub mod ClaimRunLaws
+pub mod NextFit
 pub mod Plans
 pub mod PlanMeanings
 pub mod Releases
