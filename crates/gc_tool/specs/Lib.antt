@@ -3,4 +3,3 @@ pub mod Memories
 pub mod Outside
 pub mod Runs
 pub mod Statuses
-pub mod Texts

@@ -21,7 +21,7 @@ use Rattle.gc_tool.specs.declared.forms.Copying.TheVariants as copying
 use Rattle.gc_tool.specs.declared.forms.Replay.{Replay}
 use Rattle.gc_tool.specs.declared.status.Status.{Status}
 use Rattle.gc_tool.specs.declared.status.Status.TheVariants.{Done, Usage, ReadFault, TooLong, ScriptFault, WriteFault, StepsSpent, OutOfMemory, NotBuilt}
-use Rattle.gc_tool.specs.Texts.{replay_text}
+use Rattle.heap_report.specs.Reports.{history_text}
 use Rattle.gc_tool.specs.Forms.{request_of, IsBuilt}
 use Rattle.gc_tool.specs.Outside.{ReadsAll, Rose}
 
@@ -41,7 +41,7 @@ module _ {R W E M : Type 0} (kit : Kit R W E M) (by : Stepping R W E M) where
   entries_of w = shown w.told.log
 
   abbrev pub text_of_world : State R W E M → List ℕ
-  text_of_world w = replay_text (entries_of w) w.told.agains w.told.answers
+  text_of_world w = history_text (entries_of w) w.told.agains w.told.answers
 
   -- A text of a world: it tells what the world shows.
   pub record IsTextOf (w : State R W E M) (text : List ℕ) : Type 0 where

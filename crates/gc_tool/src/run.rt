@@ -14,12 +14,12 @@ use crate::reading::{INPUT_LIMIT, read_all};
 use crate::sink::Sink;
 use crate::source::Source;
 use crate::status::Status;
-use crate::texts::print_replay;
 use crate::writing::give_all;
 use at_rest::AtRest;
 use barriers::Copier;
 use chicken_tags::Chicken;
 use gc_cycle::{Steps, World};
+use heap_report::history_report;
 use heap_script::Script;
 use std::alloc::Global;
 
@@ -38,7 +38,7 @@ where
     ensures memory { IfErr result (λ e. e ≡ Status.OutOfMemory) }
 {
     let history = world.history(alloc)?;
-    let text = print_replay(alloc, &history, world.agains(), world.answers())?;
+    let text = history_report(alloc, &history, world.agains(), world.answers())?;
     Ok(text)
 }
 

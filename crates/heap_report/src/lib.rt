@@ -9,7 +9,7 @@ mod leavings;
 mod reports;
 mod words;
 
-pub use reports::{replay_report, report};
+pub use reports::{history_report, replay_report, report};
 
 #[cfg(test)]
 mod tests;
