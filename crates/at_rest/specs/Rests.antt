@@ -57,6 +57,9 @@ rest_movable = record {
   keeps = λ makes. absurd makes;
   draws = λ draws m. absurd cc;
   clears = λ clears. absurd cc;
+  looks = λ moves c j x head. absurd cc;
+  narrows = λ clover c b f x w shape wide. absurd cc;
+  unwritten = λ clover c side x k found w running own put. absurd cc;
   wides = λ c m x at head. absurd (no_wide c m x at head);
   starts = λ c j x head. absurd head;
   marks = λ c j f w x head. absurd head;
@@ -85,6 +88,7 @@ packed_word word fits =
 
 pub laws_at_rest : Laws kit_at_rest steps_at_rest
 laws_at_rest = record {
+  minds = refl;
   table = rest_laws;
   cycle = rest_cycle;
   movable = rest_movable;

@@ -4,6 +4,7 @@ use Rattle.std.specs.Option.{ForSome}
 use Rattle.std.proofs.Common.{sym, subst, ap, inl, inr}
 use Rattle.std.proofs.lemmas.Bool.{ltb-false}
 use Rattle.call_steps.specs.declared.step.Step.TheVariants.{Load, Store, Ended}
+use Rattle.call_steps.specs.Ending.{Taken, LastStep, EndsOnlyFor, up_to, step_of, ends_only_for}
 use Rattle.heap_words.specs.FieldWords.{field_at}
 use Rattle.object_headers.specs.Headers.{header_at}
 use Rattle.handshakes.specs.declared.phase_word.Phase.{Phase}
@@ -27,7 +28,6 @@ use Rattle.barriers.specs.declared.write.WriteMachine.TheVariants as write
 use Rattle.barriers.specs.declared.exchange.Errand.{Errand}
 use Rattle.barriers.specs.declared.exchange.ExchangeMachine.{ExchangeMachine}
 use Rattle.barriers.specs.declared.exchange.ExchangeMachine.TheVariants as exchange
-use Rattle.barriers.specs.Ending.{Taken, LastStep, EndsOnlyFor, up_to, step_of, ends_only_for}
 use Rattle.barriers.specs.FollowCauses.{IsGiven, IsFollowing, follow_begins, found_at_once, follow_ends, followed, for_mapped}
 use Rattle.barriers.specs.PlainExchangeCauses as at_word
 use Rattle.barriers.specs.PlainExchanges as plainly

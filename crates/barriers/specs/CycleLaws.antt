@@ -1,5 +1,5 @@
 -- What a cycle asks of a copier, beside the laws of its table.
-use Rattle.std.specs.Prelude.{◌≡◌, ◌≢◌, ℕ, ◌⊎◌, Bool, true, false, None}
+use Rattle.std.specs.Prelude.{◌≡◌, ◌≢◌, ℕ, ◌⊎◌, Bool, true, false, Some, None}
 use Rattle.heap_words.specs.declared.field_word.FieldWord.{FieldWord}
 use Rattle.object_headers.specs.declared.change.Kind.{Kind}
 use Rattle.object_headers.specs.declared.change.Kind.TheVariants as kinds
@@ -7,11 +7,12 @@ use Rattle.object_headers.specs.Changes.{is_stopless, is_clover, does_tag, does_
 use Rattle.wide_objects.specs.Statuses.{InOriginal}
 use Rattle.space_reclaim.specs.declared.move_job.MoveJob.{MoveJob}
 use Rattle.barriers.specs.States.{State, Plain, Kept, Tagged}
-use Rattle.barriers.specs.Stances.{Stance}
-use Rattle.barriers.specs.Spaces.{Here}
+use Rattle.barriers.specs.Stances.{Stance, Free}
+use Rattle.barriers.specs.Spaces.{Here, is_mark}
 use Rattle.barriers.specs.Cycles.{Told, Everybody, Cycle, Side, Announce, Reach, Draw, Clears, Lates, IsSet, Handshaken}
-use Rattle.barriers.specs.Events.{Keep, Tag, Unkeep, IsStill}
-use Rattle.barriers.specs.Moves.{Carried, Points, Seals, Starts, Forwards, Asks, Widens, Finishes, Marks}
+use Rattle.barriers.specs.Knowns.{Known, Finds, puts}
+use Rattle.barriers.specs.Events.{Keep, Tag, Unkeep, IsStill, IsWide}
+use Rattle.barriers.specs.Moves.{Carried, Looks, Points, Seals, Starts, Forwards, Asks, Widens, Finishes, Marks}
 use Rattle.barriers.specs.MoveSteps.{first_of, forwards_from}
 use Rattle.barriers.specs.Protocols.{Protocol, TargetIs}
 
@@ -69,6 +70,11 @@ pub record MovingLaws (kind : Kind) (P : Protocol) : Type 0 where
   pub keeps : P.Makes Keep → does_tag kind ≡ true
   pub draws : is_clover kind ≡ true → (m : FieldWord) → P.Phases (Draw m)
   pub clears : is_clover kind ≡ true → P.Phases (Clears true)
+  -- where marks are sought nothing is moved through a wide object, and while Free is not announced a call never writes its pass's mark
+  pub narrows : is_clover kind ≡ true → (c : Cycle) (b f : ℕ) (x : Here) (w : FieldWord) → P.Shape c b f x w → IsWide x.state → ⊥
+  pub unwritten : is_clover kind ≡ true → (c : Cycle) (side : Side) (x : Here) (k : Known) (found : Finds) (w : FieldWord) → c.phase ≢ Free → P.Own c side x k → puts k found ≡ Some w → is_mark side.own w ≡ false
+  -- a mover that moves does more than to look
+  pub looks : does_move kind ≡ true → (c : Cycle) (j : MoveJob) (x : Here) → P.MoveHead c (Looks j) x → ⊥
   -- who has which steps; and in which state the header is that the mover exchanges, where its targets are the job's
   pub wides : (c : Cycle) (m : Carried) (x : Here) → IsAtWide m → P.MoveHead c m x → is_stopless kind ≡ true
   pub starts : (c : Cycle) (j : MoveJob) (x : Here) → P.MoveHead c (Starts j) x → (is_clover kind ≡ true) × (x.state ≡ Plain)

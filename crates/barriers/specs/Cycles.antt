@@ -95,11 +95,15 @@ has_mark Copy = true
 has_mark Fix = true
 has_mark _ = false
 
--- and it is then the mark word's value
-abbrev pub own_at : Stance → Option FieldWord → Option FieldWord
-own_at acked mark = if has_mark acked then mark else None
+-- with the last Copy word acknowledged that is the mark word's value; in the search it may be one drawn before it
+abbrev pub OwnFits : Stance → Option FieldWord → Option FieldWord → Type 0
+OwnFits Search own mark = Unit {0}
+OwnFits Copy own mark = own ≡ mark
+OwnFits Fix own mark = own ≡ mark
+OwnFits _ own mark = own ≡ None
 
+-- after a search that ended clear every pass has the mark
 pub record Handshaken (c : Cycle) (side : Side) : Type 0 where
   pub told : ToldFits c.told side.acked
-  pub own : side.own ≡ own_at side.acked c.mark
-  pub clear : c.clear ≡ true → has_mark side.acked ≡ true
+  pub own : OwnFits side.acked side.own c.mark
+  pub clear : c.clear ≡ true → (has_mark side.acked ≡ true) × (side.own ≡ c.mark)

@@ -3,6 +3,7 @@ use Rattle.std.specs.Prelude.{◌≡◌, ◌≢◌, ℕ, ◌⊎◌, List, Option
 use Rattle.std.specs.Option.{ForSome}
 use Rattle.std.proofs.Common.{subst, sym}
 use Rattle.call_steps.specs.declared.step.Step.TheVariants.{Load, Ended}
+use Rattle.call_steps.specs.Ending.{Taken, LastStep, up_to, step_of}
 use Rattle.heap_words.specs.declared.field_word.FieldWord.{FieldWord}
 use Rattle.heap_words.specs.declared.field_word.FieldWord.TheVariants.{Num, Link}
 use Rattle.heap_words.specs.FieldWords.{field_at}
@@ -13,7 +14,6 @@ use Rattle.handshakes.specs.declared.follow.FollowEnd.{FollowEnd}
 use Rattle.handshakes.specs.declared.follow.FollowMachine.{FollowMachine}
 use Rattle.handshakes.specs.declared.follow.FollowMachine.TheVariants as follow
 use Rattle.handshakes.specs.Follows.{follow_of, asks_of, fed_of, end_of, place_by, unshaded}
-use Rattle.barriers.specs.Ending.{Taken, LastStep, up_to, step_of}
 
 -- the last step was the look at the field, this is what it found, and the phase asks for no step to follow it
 pub record IsFound (IsLook : LastStep → Type 0) (phase : Phase) (last : LastStep) (held : FieldWord) : Type 0 where

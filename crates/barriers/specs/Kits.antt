@@ -10,6 +10,7 @@ use Rattle.object_headers.specs.declared.header.Header.{Header}
 use Rattle.object_headers.specs.declared.header.State.{State as HeaderState}
 use Rattle.object_headers.specs.declared.header.State.TheVariants as states
 use Rattle.object_headers.specs.declared.change.Kind.{Kind}
+use Rattle.object_headers.specs.Changes.{is_clover}
 use Rattle.object_headers.specs.Headers.{IsHeader, word_of_header, header_at}
 use Rattle.wide_objects.specs.Statuses.{IsStatus, word_of_status}
 use Rattle.space_reclaim.specs.declared.move_job.MoveJob.{MoveJob}
@@ -241,6 +242,8 @@ module _ {R W E M : Type 0} (kit : Kit R W E M) (by : Stepping R W E M) where
     pub none : kit.keeps m ≡ None
 
   pub record Laws : Type 0 where
+    -- where marks are sought, calls mind them
+    pub minds : kit.minds ≡ is_clover kit.kind
     pub table : ProtocolLaws P
     pub cycle : CycleLaws P
     pub movable : MovingLaws kit.kind P

@@ -3,7 +3,6 @@ pub mod CallTurns
 pub mod Causes
 pub mod CycleLaws
 pub mod Cycles
-pub mod Ending
 pub mod Events
 pub mod Exchanges
 pub mod FollowCauses

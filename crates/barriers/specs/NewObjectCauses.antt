@@ -5,6 +5,7 @@ use Rattle.std.proofs.Common.{sym, subst, ap, arith, ◌∙◌, inl, inr}
 use Rattle.std.proofs.lemmas.Bool.{eqb-true, eqb-false, leb-false}
 use Rattle.std.proofs.lemmas.Bool.Decides.{nat_tests}
 use Rattle.call_steps.specs.declared.step.Step.TheVariants.{Store}
+use Rattle.call_steps.specs.Ending.{after, Took}
 use Rattle.heap_words.specs.Layouts.{Sizes, IsLayout, IsPass, regions_of, region_at, first_word}
 use Rattle.heap_words.specs.PlaceLaws.{regions_of-bound}
 use Rattle.heap_words.specs.declared.limits.TheConstants.{BIRTHS_OF_PASS, MOST_REGIONS, REGION_WORDS}
@@ -29,7 +30,6 @@ use Rattle.barriers.specs.declared.new_object.Placement.{Placement}
 use Rattle.barriers.specs.declared.new_object.NewPlan.{NewPlan}
 use Rattle.barriers.specs.declared.new_object.NewMachine.{NewMachine}
 use Rattle.barriers.specs.declared.new_object.NewMachine.TheVariants as make
-use Rattle.barriers.specs.Ending.{after, Took}
 use Rattle.barriers.specs.NewObjects.{asks_of, fed_of, end_of, next_birth, new_header, placed, plan_of, placed_in, claims_for, by_fit, new_of, leaving_at, claimed}
 
 -- one of its steps found the region whose word is at this address in use

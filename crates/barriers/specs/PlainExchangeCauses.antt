@@ -4,6 +4,7 @@ use Rattle.std.specs.Option.{ForSome}
 use Rattle.std.proofs.Common.{sym, subst, ap, ◌∙◌, inl, inr}
 use Rattle.std.proofs.lemmas.Bool.{eqb-true, eqb-false}
 use Rattle.call_steps.specs.declared.step.Step.TheVariants.{Load, Exchange, Ended}
+use Rattle.call_steps.specs.Ending.{Taken, LastStep, EndsOnlyFor, up_to, step_of, ends_only_for}
 use Rattle.heap_words.specs.FieldWords.{field_at}
 use Rattle.barriers.specs.declared.ends.TryRefusal.TheVariants.{NotLink, NoField, Raced, Busy}
 use Rattle.barriers.specs.declared.ends.ExchangeEnd.{ExchangeEnd}
@@ -13,7 +14,6 @@ use Rattle.barriers.specs.declared.plain_exchange.TriesLeft.{TriesLeft}
 use Rattle.barriers.specs.declared.plain_exchange.TriesLeft.TheVariants.{Two, One, Zero}
 use Rattle.barriers.specs.declared.plain_exchange.PlainExchange.{PlainExchange}
 use Rattle.barriers.specs.declared.plain_exchange.PlainExchange.TheVariants as plain
-use Rattle.barriers.specs.Ending.{Taken, LastStep, EndsOnlyFor, up_to, step_of, ends_only_for}
 use Rattle.barriers.specs.PlainExchanges.{asks_of, fed_of, end_of, is_expected, compared, again, lost, tried}
 
 -- the step is an exchange that wanted this word

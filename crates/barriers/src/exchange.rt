@@ -2,12 +2,12 @@
 
 ghost use Rattle.std.specs.Prelude.{◌≡◌, ◌<◌, ◌≤◌, ◌^◌, ◌↔◌, IsSome};
 ghost use Rattle.call_steps.specs.declared.step.Step.TheVariants.{Ended as StepEnded};
+ghost use Rattle.call_steps.specs.Ending.{EndsOnlyFor};
 ghost use Rattle.heap_words.specs.FieldWords.{field_of};
 ghost use Rattle.heap_words.specs.declared.limits.TheConstants.{ADDRESS_LIMIT};
 ghost use Rattle.handshakes.specs.PhaseWords.{phase_word_of, phase_word_at};
 ghost use Rattle.barriers.specs.declared.exchange.ExchangeMachine.TheVariants.{Header};
 ghost use Rattle.barriers.specs.Exchanges.{asks_of, fed_of, end_of, errand_of, by_len, exchanged as exchanged_by, with_follow as with_follow_of};
-ghost use Rattle.barriers.specs.Ending.{EndsOnlyFor};
 ghost use Rattle.barriers.specs.Causes.{ExchangeEndsFor};
 
 use crate::ends::{ExchangeEnd, TryRefusal};

@@ -2,9 +2,9 @@
 
 ghost use Rattle.std.specs.Prelude.{◌≡◌, ◌≤◌, ◌↔◌, IsSome};
 ghost use Rattle.call_steps.specs.declared.step.Step.TheVariants.{Ended as StepEnded};
+ghost use Rattle.call_steps.specs.Ending.{EndsOnlyFor};
 ghost use Rattle.barriers.specs.declared.plain_exchange.PlainExchange.TheVariants.{Load};
 ghost use Rattle.barriers.specs.PlainExchanges.{asks_of, fed_of, end_of, exchanges_left};
-ghost use Rattle.barriers.specs.Ending.{EndsOnlyFor};
 ghost use Rattle.barriers.specs.PlainExchangeCauses.{EndsFor};
 ghost use Rattle.barriers.specs.PlainExchanges.{compared as compared_by, lost as lost_by, again as again_by, front as front_of};
 

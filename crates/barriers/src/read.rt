@@ -3,11 +3,11 @@
 ghost use Rattle.std.specs.Prelude.{◌≡◌, ◌<◌, ◌≤◌, ◌^◌, ◌↔◌, IsSome};
 ghost use Rattle.heap_words.specs.declared.limits.TheConstants.{ADDRESS_LIMIT};
 ghost use Rattle.call_steps.specs.declared.step.Step.TheVariants.{Ended as StepEnded};
+ghost use Rattle.call_steps.specs.Ending.{EndsOnlyFor};
 ghost use Rattle.handshakes.specs.PhaseWords.{phase_word_of, phase_word_at};
 ghost use Rattle.barriers.specs.declared.read.ReadMachine.TheVariants.{Header};
 ghost use Rattle.barriers.specs.Spots.{spot_of};
 ghost use Rattle.barriers.specs.Reads.{asks_of, fed_of, end_of};
-ghost use Rattle.barriers.specs.Ending.{EndsOnlyFor};
 ghost use Rattle.barriers.specs.Causes.{ReadEndsFor};
 
 use crate::ends::ReadEnd;

@@ -2,13 +2,13 @@
 
 ghost use Rattle.std.specs.Prelude.{◌≡◌, ◌<◌, ◌≤◌, ◌^◌, ◌↔◌, IsSome};
 ghost use Rattle.call_steps.specs.declared.step.Step.TheVariants.{Ended as StepEnded};
+ghost use Rattle.call_steps.specs.Ending.{EndsOnlyFor};
 ghost use Rattle.heap_words.specs.FieldWords.{field_of};
 ghost use Rattle.heap_words.specs.declared.limits.TheConstants.{ADDRESS_LIMIT};
 ghost use Rattle.handshakes.specs.PhaseWords.{phase_word_of};
 ghost use Rattle.barriers.specs.declared.write.WriteMachine.TheVariants.{Header};
 ghost use Rattle.barriers.specs.Spots.{spot_of};
 ghost use Rattle.barriers.specs.Writes.{asks_of, fed_of, end_of};
-ghost use Rattle.barriers.specs.Ending.{EndsOnlyFor};
 ghost use Rattle.barriers.specs.Causes.{WriteEndsFor};
 
 use crate::ends::{TryRefusal, WriteEnd};

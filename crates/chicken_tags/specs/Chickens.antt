@@ -71,6 +71,7 @@ steps_of_chicken = record {
 
 pub laws_of_chicken : Laws kit_of_chicken steps_of_chicken
 laws_of_chicken = record {
+  minds = refl;
   table = chicken_laws;
   cycle = chicken_cycle;
   movable = chicken_movable;

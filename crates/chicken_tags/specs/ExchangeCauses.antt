@@ -3,6 +3,7 @@ use Rattle.std.specs.Prelude.{◌≡◌, ◌≢◌, ℕ, nat_lt, if◌then◌els
 use Rattle.std.specs.Option.{ForSome}
 use Rattle.std.proofs.Common.{sym, subst, inl, inr, append-nil}
 use Rattle.call_steps.specs.declared.step.Step.TheVariants.{Load, Ended}
+use Rattle.call_steps.specs.Ending.{Taken, LastStep, EndsOnlyFor, up_to, step_of, ends_only_for}
 use Rattle.handshakes.specs.declared.phase_word.Phase.{Phase}
 use Rattle.barriers.specs.declared.spot.Spot.{Spot}
 use Rattle.barriers.specs.declared.ends.TryRefusal.TheVariants as refusal
@@ -12,7 +13,6 @@ use Rattle.barriers.specs.declared.exchange.Errand.{Errand}
 use Rattle.barriers.specs.declared.exchange.ExchangeMachine.{ExchangeMachine}
 use Rattle.barriers.specs.declared.exchange.ExchangeMachine.TheVariants as rest_exchange
 use Rattle.barriers.specs.declared.plain_exchange.PlainExchange.TheVariants as plain
-use Rattle.barriers.specs.Ending.{Taken, LastStep, EndsOnlyFor, up_to, step_of, ends_only_for}
 use Rattle.barriers.specs.Causes.{LacksField, len_at, ExchangeEndsFor, IsExchangeFor, exchange_keeps, exchange_ends}
 use Rattle.barriers.specs.Exchanges as rest_exchanges
 use Rattle.tagged_calls.specs.declared.location.Keep.{Keep}

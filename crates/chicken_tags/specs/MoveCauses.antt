@@ -5,10 +5,10 @@ use Rattle.std.proofs.Common.{subst, ap, ◌∙◌}
 use Rattle.std.proofs.lemmas.Bool.{eqb-true, eqb-false}
 use Rattle.call_steps.specs.declared.step.Step.{Step}
 use Rattle.call_steps.specs.declared.step.Step.TheVariants.{Store, Exchange, Ended}
+use Rattle.call_steps.specs.Ending.{Taken, LastStep, EndsOnlyFor, up_to, step_of, ends_only_for}
 use Rattle.space_reclaim.specs.declared.move_job.MoveJob.{MoveJob}
 use Rattle.barriers.specs.declared.ends.MoveEnd.{MoveEnd}
 use Rattle.barriers.specs.declared.ends.MoveEnd.TheVariants.{Moved, Kept}
-use Rattle.barriers.specs.Ending.{Taken, LastStep, EndsOnlyFor, up_to, step_of, ends_only_for}
 use Rattle.chicken_tags.specs.declared.mover.MoveHeaders.{MoveHeaders}
 use Rattle.chicken_tags.specs.declared.mover.ChickenMove.{ChickenMove}
 use Rattle.chicken_tags.specs.declared.mover.ChickenMove.TheVariants as move

@@ -3,12 +3,12 @@ use Rattle.std.specs.Prelude.{◌≡◌, ◌≢◌, ℕ, nat_lt, if◌then◌els
 use Rattle.std.specs.Option.{ForSome}
 use Rattle.std.proofs.Common.{subst, inl}
 use Rattle.call_steps.specs.declared.step.Step.TheVariants.{Load, Ended}
+use Rattle.call_steps.specs.Ending.{Taken, LastStep, EndsOnlyFor, up_to, step_of, ends_only_for}
 use Rattle.handshakes.specs.declared.phase_word.Phase.{Phase}
 use Rattle.barriers.specs.declared.spot.Spot.{Spot}
 use Rattle.barriers.specs.declared.ends.ReadEnd.{ReadEnd}
 use Rattle.barriers.specs.declared.ends.ReadEnd.TheVariants as read_end
 use Rattle.barriers.specs.declared.read.ReadMachine.TheVariants as rest_read
-use Rattle.barriers.specs.Ending.{Taken, LastStep, EndsOnlyFor, up_to, step_of, ends_only_for}
 use Rattle.barriers.specs.Causes.{LacksField, len_at, ReadEndsFor, IsReadFor, read_keeps, read_ends}
 use Rattle.barriers.specs.Reads as rest_reads
 use Rattle.tagged_calls.specs.declared.location.Location.TheVariants as location

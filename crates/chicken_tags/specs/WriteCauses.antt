@@ -3,13 +3,13 @@ use Rattle.std.specs.Prelude.{◌≡◌, ◌≢◌, ℕ, nat_lt, if◌then◌els
 use Rattle.std.specs.Option.{ForSome}
 use Rattle.std.proofs.Common.{sym, subst, inl, inr, append-nil}
 use Rattle.call_steps.specs.declared.step.Step.TheVariants.{Load, Ended}
+use Rattle.call_steps.specs.Ending.{Taken, LastStep, EndsOnlyFor, up_to, step_of, ends_only_for}
 use Rattle.barriers.specs.declared.spot.Spot.{Spot}
 use Rattle.barriers.specs.declared.ends.TryRefusal.TheVariants as refusal
 use Rattle.barriers.specs.declared.ends.WriteEnd.{WriteEnd}
 use Rattle.barriers.specs.declared.ends.WriteEnd.TheVariants as write_end
 use Rattle.barriers.specs.declared.write.WriteMachine.{WriteMachine}
 use Rattle.barriers.specs.declared.write.WriteMachine.TheVariants as rest_write
-use Rattle.barriers.specs.Ending.{Taken, LastStep, EndsOnlyFor, up_to, step_of, ends_only_for}
 use Rattle.barriers.specs.Causes.{LacksField, len_at, WriteEndsFor, IsWriteFor, write_keeps, write_ends}
 use Rattle.barriers.specs.Writes as rest_writes
 use Rattle.tagged_calls.specs.declared.location.Keep.{Keep}

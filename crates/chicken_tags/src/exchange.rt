@@ -4,8 +4,8 @@ ghost use Rattle.std.specs.Prelude.{◌≡◌, ◌<◌, ◌^◌, ◌↔◌, IsSo
 ghost use Rattle.heap_words.specs.FieldWords.{field_of};
 ghost use Rattle.heap_words.specs.declared.limits.TheConstants.{ADDRESS_LIMIT};
 ghost use Rattle.call_steps.specs.declared.step.Step.TheVariants.{Ended as StepEnded};
+ghost use Rattle.call_steps.specs.Ending.{EndsOnlyFor};
 ghost use Rattle.handshakes.specs.PhaseWords.{phase_word_of, phase_word_at};
-ghost use Rattle.barriers.specs.Ending.{EndsOnlyFor};
 ghost use Rattle.barriers.specs.Exchanges.{errand_of};
 ghost use Rattle.chicken_tags.specs.ExchangeCauses.{ExchangeEnds};
 ghost use Rattle.tagged_calls.specs.Locations.{location_in};

@@ -2,7 +2,7 @@
 
 ghost use Rattle.std.specs.Prelude.{◌≡◌, ◌↔◌, IsSome};
 ghost use Rattle.call_steps.specs.declared.step.Step.TheVariants.{Ended as StepEnded};
-ghost use Rattle.barriers.specs.Ending.{EndsOnlyFor};
+ghost use Rattle.call_steps.specs.Ending.{EndsOnlyFor};
 ghost use Rattle.chicken_tags.specs.ChickenMoves as moves;
 ghost use Rattle.chicken_tags.specs.MoveCauses.{MoveEnds};
 

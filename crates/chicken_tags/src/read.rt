@@ -3,8 +3,8 @@
 ghost use Rattle.std.specs.Prelude.{◌≡◌, ◌<◌, ◌↔◌, IsSome};
 ghost use Rattle.heap_words.specs.declared.limits.TheConstants.{ADDRESS_LIMIT};
 ghost use Rattle.call_steps.specs.declared.step.Step.TheVariants.{Ended as StepEnded};
+ghost use Rattle.call_steps.specs.Ending.{EndsOnlyFor};
 ghost use Rattle.handshakes.specs.PhaseWords.{phase_word_of, phase_word_at};
-ghost use Rattle.barriers.specs.Ending.{EndsOnlyFor};
 ghost use Rattle.barriers.specs.Spots.{spot_of};
 ghost use Rattle.chicken_tags.specs.ReadCauses.{ReadEnds};
 ghost use Rattle.chicken_tags.specs.ChickenReads as reads;

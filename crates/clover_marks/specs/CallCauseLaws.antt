@@ -5,6 +5,7 @@ use Rattle.std.proofs.Common.{subst, ap, sym, ◌∙◌, inl, inr, append-nil}
 use Rattle.std.proofs.lemmas.Bool.{eqb-true, eqb-false, ltb-false}
 use Rattle.call_steps.specs.declared.step.Step.{Step}
 use Rattle.call_steps.specs.declared.step.Step.TheVariants.{Load, Store, Exchange, Ended}
+use Rattle.call_steps.specs.Ending.{Taken, LastStep, EndsOnlyFor, up_to, step_of, ends_only_for}
 use Rattle.heap_words.specs.Layouts.{phase_at}
 use Rattle.heap_words.specs.declared.field_word.FieldWord.{FieldWord}
 use Rattle.heap_words.specs.declared.field_word.FieldWord.TheVariants.{Num}
@@ -22,7 +23,6 @@ use Rattle.barriers.specs.declared.spot.Spot.{Spot}
 use Rattle.barriers.specs.declared.ends.TryRefusal.TheVariants as refusal
 use Rattle.barriers.specs.declared.plain_exchange.TriesLeft.{TriesLeft}
 use Rattle.barriers.specs.declared.plain_exchange.TriesLeft.TheVariants.{Two}
-use Rattle.barriers.specs.Ending.{Taken, LastStep, EndsOnlyFor, up_to, step_of, ends_only_for}
 use Rattle.barriers.specs.Causes.{len_at}
 use Rattle.barriers.specs.FollowCauses.{IsFollowing, follow_begins, found_at_once, follow_ends, followed as link_followed, for_mapped}
 use Rattle.clover_marks.specs.declared.access.Action.{Action}

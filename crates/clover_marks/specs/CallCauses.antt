@@ -2,12 +2,12 @@
 use Rattle.std.specs.Prelude.{◌≡◌, ◌≢◌, ℕ, ◌+◌, ◌≤◌, ◌⊎◌, ◌==◌, if◌then◌else◌, true, false, List, [], ◌∷◌, ◌++◌, Some, None}
 use Rattle.call_steps.specs.declared.step.Step.{Step}
 use Rattle.call_steps.specs.declared.step.Step.TheVariants.{Load, Store, Exchange}
+use Rattle.call_steps.specs.Ending.{Taken, LastStep, up_to}
 use Rattle.heap_words.specs.Layouts.{phase_at}
 use Rattle.heap_words.specs.FieldWords.{field_at}
 use Rattle.heap_words.specs.declared.field_word.FieldWord.{FieldWord}
 use Rattle.barriers.specs.declared.ends.TryRefusal.{TryRefusal}
 use Rattle.barriers.specs.declared.ends.TryRefusal.TheVariants as refusal
-use Rattle.barriers.specs.Ending.{Taken, LastStep, up_to}
 use Rattle.barriers.specs.Causes.{len_at}
 use Rattle.barriers.specs.FollowCauses.{IsGiven}
 use Rattle.clover_marks.specs.declared.access.Action.{Action}

@@ -4,9 +4,9 @@ use Rattle.std.proofs.Common.{subst, ap, sym, ◌∙◌, arith, inl, inr, append
 use Rattle.std.proofs.lemmas.Bool.Decides.{nat_tests}
 use Rattle.call_steps.specs.declared.step.Step.{Step}
 use Rattle.call_steps.specs.declared.step.Step.TheVariants.{Load, Exchange}
+use Rattle.call_steps.specs.Ending.{Taken, LastStep, up_to}
 use Rattle.barriers.specs.declared.plain_exchange.TriesLeft.{TriesLeft}
 use Rattle.barriers.specs.declared.plain_exchange.TriesLeft.TheVariants.{Two, One, Zero}
-use Rattle.barriers.specs.Ending.{Taken, LastStep, up_to}
 use Rattle.clover_marks.specs.declared.access.Action.{Action}
 use Rattle.clover_marks.specs.declared.access.Action.TheVariants as action
 use Rattle.clover_marks.specs.declared.access.Access.{Access}

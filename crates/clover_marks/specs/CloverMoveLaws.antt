@@ -1,5 +1,5 @@
 -- The laws of Clover's objects and of its move, at one field of one object, and what a cycle asks.
-use Rattle.std.proofs.Common.{◌≡◌, ℕ, ◌<◌, ◌⊎◌, inl, inr, refl, arith, true, false, Some, None, List}
+use Rattle.std.proofs.Common.{◌≡◌, ◌≢◌, ℕ, ◌<◌, ◌⊎◌, inl, inr, refl, subst, arith, true, false, Option, Some, None, List}
 use Rattle.std.proofs.lemmas.Bool.Decides.{nat_tests}
 use Rattle.heap_words.specs.declared.field_word.FieldWord.{FieldWord}
 use Rattle.wide_objects.specs.Statuses.{InOriginal}
@@ -7,15 +7,16 @@ use Rattle.space_reclaim.specs.declared.move_job.MoveJob.{MoveJob}
 use Rattle.heap_history.specs.declared.call.Call.{Call}
 use Rattle.object_headers.specs.declared.change.Kind.TheVariants as kinds
 use Rattle.barriers.specs.States.{State, Kept, Moving}
+use Rattle.barriers.specs.Stances.{Stance, Free}
 use Rattle.barriers.specs.Spaces.{Here, zone, Copied, place_word, is_mark}
 use Rattle.barriers.specs.Cycles.{Cycle, Side, Phasing, phased, MayGo, MayPhase, IsTold, IsSet, IsMoving, Handshaken}
-use Rattle.barriers.specs.Knowns.{Finds, Header_word}
-use Rattle.barriers.specs.Events.{Event, Widen, after, after_copy, May, IsStill}
+use Rattle.barriers.specs.Knowns.{Known, Finds, Header_word, puts}
+use Rattle.barriers.specs.Events.{Event, Widen, after, after_copy, May, IsStill, IsWide}
 use Rattle.barriers.specs.Moves.{Carried, Lays, Forwards, IsAtField, job_of, field_of, move_finds, move_event}
 use Rattle.barriers.specs.Protocols.{TargetIs}
 use Rattle.barriers.specs.ProtocolLaws.{ByPass, SameHead, MayEnd, IsFresh, ShapeLaws, TurnLaws, MoveLaws, ProtocolLaws}
 use Rattle.barriers.specs.CycleLaws.{CycleLaws, IsAtWide, MovingLaws}
-use Rattle.clover_marks.specs.CloverTable.{CloverFits, CloverState, Ready, ClearAt, CloverShape, CloverRight, CloverHead, CloverField, CloverMakes, clover_move_fed, clover}
+use Rattle.clover_marks.specs.CloverTable.{CloverFits, CloverState, Ready, ClearAt, CloverShape, CloverRight, CloverHead, CloverField, CloverMakes, CloverOwn, Unwritten, will_write, clover_move_fed, clover}
 use Rattle.clover_marks.specs.CloverStays.{own_turns}
 use Rattle.clover_marks.specs.CloverCallLaws.{clover_calls}
 
@@ -221,6 +222,19 @@ clover_cycle = record {
 at_wide : (c : Cycle) (m : Carried) (x : Here) → IsAtWide m → CloverHead c m x → ⊥
 at_wide c m x at head = grind (arith, at, head)
 
+not_wide : (x : State) → CloverState x → IsWide x → ⊥
+not_wide x state wide = grind (arith, state, wide)
+
+-- what its step puts is the word that it will write
+put_is : (k : Known) (found : Finds) (w : FieldWord) → puts k found ≡ Some w → will_write k ≡ Some w
+put_is k found w put = grind (arith, put)
+
+not_own : (phase : Stance) (own : Option FieldWord) (w : FieldWord) → phase ≢ Free → Unwritten phase own (Some w) → is_mark own w ≡ false
+not_own phase own w running is = elim is [ inl free ↦ absurd (running free) | inr other ↦ other ]
+
+unwritten : (c : Cycle) (side : Side) (x : Here) (k : Known) (found : Finds) (w : FieldWord) → c.phase ≢ Free → CloverOwn c side x k → puts k found ≡ Some w → is_mark side.own w ≡ false
+unwritten c side x k found w running own put = not_own c.phase side.own w running (subst (Unwritten c.phase side.own) (put_is k found w put) own.1)
+
 moving_to : (y : State) (to at : ℕ) (x : Here) → IsMoving y → x.to ≡ to → TargetIs x y → y ≡ Moving to
 moving_to y to at x is same target = grind (arith, is, same, target)
 
@@ -233,6 +247,9 @@ clover_movable = record {
   keeps = λ makes. absurd makes;
   draws = λ draws m. tt;
   clears = λ clears. tt;
+  looks = λ moves c j x head. head;
+  narrows = λ clover c b f x w shape wide. not_wide x.state shape.state wide;
+  unwritten = λ clover c side x k found w running own put. unwritten c side x k found w running own put;
   wides = λ c m x at head. absurd (at_wide c m x at head);
   starts = λ c j x head. (refl, head.0);
   marks = λ c j f w x head. let under = head.0 in let ready = under.1 in ready.2;

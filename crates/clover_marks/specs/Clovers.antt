@@ -133,6 +133,7 @@ module _ (v : PassView) (birth at field : ℕ) where
 
 pub laws_of_clover : Laws kit_of_clover steps_of_clover
 laws_of_clover = record {
+  minds = refl;
   table = clover_laws;
   cycle = clover_cycle;
   movable = clover_movable;

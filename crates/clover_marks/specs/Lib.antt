@@ -17,10 +17,6 @@ pub mod CloverStays
 pub mod CloverSteps
 pub mod CloverTable
 pub mod Clovers
-pub mod Draws
 pub mod MarkLaws
 pub mod MoveCauses
 pub mod MoverLaws
-pub mod SeekLaws
-pub mod SeekRuns
-pub mod Seeks

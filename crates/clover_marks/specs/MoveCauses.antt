@@ -6,10 +6,10 @@ use Rattle.std.proofs.lemmas.Bool.{eqb-true}
 use Rattle.std.proofs.lemmas.Bool.Decides.{nat_tests}
 use Rattle.call_steps.specs.declared.step.Step.{Step}
 use Rattle.call_steps.specs.declared.step.Step.TheVariants.{Store, Exchange, Ended}
+use Rattle.call_steps.specs.Ending.{Taken, LastStep, EndsOnlyFor, up_to, step_of, ends_only_for}
 use Rattle.space_reclaim.specs.declared.move_job.MoveJob.{MoveJob}
 use Rattle.barriers.specs.declared.ends.MoveEnd.{MoveEnd}
 use Rattle.barriers.specs.declared.ends.MoveEnd.TheVariants.{Moved, Kept}
-use Rattle.barriers.specs.Ending.{Taken, LastStep, EndsOnlyFor, up_to, step_of, ends_only_for}
 use Rattle.clover_marks.specs.declared.mover.MoveHeaders.{MoveHeaders}
 use Rattle.clover_marks.specs.declared.mover.Relocation.{Relocation}
 use Rattle.clover_marks.specs.declared.mover.CloverMove.{CloverMove}

@@ -2,7 +2,7 @@
 
 ghost use Rattle.std.specs.Prelude.{◌≡◌, ◌↔◌, IsSome};
 ghost use Rattle.call_steps.specs.declared.step.Step.TheVariants.{Ended as StepEnded};
-ghost use Rattle.barriers.specs.Ending.{EndsOnlyFor};
+ghost use Rattle.call_steps.specs.Ending.{EndsOnlyFor};
 ghost use Rattle.clover_marks.specs.CloverMoves as moves;
 ghost use Rattle.clover_marks.specs.MoveCauses.{MoveEnds};
 

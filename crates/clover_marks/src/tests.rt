@@ -1,5 +1,5 @@
-//! Each call once at each state of the header, with the mark as a value and as a mark, the moves, what
-//! others do in between, the draws and the searches, on plain words put by hand.
+//! Each call once at each state of the header, with the mark as a value and as a mark, the moves, and what
+//! others do in between, on plain words put by hand.
 
 ghost use Rattle.std.specs.Prelude.{◌≡◌, IsSome};
 ghost use Rattle.handshakes.specs.PhaseWords.{phase_word_of};
@@ -351,108 +351,5 @@ fn moves_nothing_without_a_header(rt: HostRuntime) -> Result<(), Fail> {
         assert_eq!(rt; mover.ask(), Step::Ended);
         assert_eq!(rt; Clover::move_end(&mover), Some(MoveEnd::Kept { header }));
     }
-    Ok(())
-}
-
-#[test]
-fn draws_candidates(rt: HostRuntime) {
-    let mut candidates = Candidates::new(1);
-    for drawn in [
-        52_245_546_284_806,
-        10_655_524_108_031,
-        221_021_922_147_337,
-        2_279_383_572_887,
-        2_118_945_423_177,
-        176_092_554_572_926,
-        249_096_715_120_665,
-        33_101_435_500_597,
-    ] {
-        assert_eq!(rt; candidates.draw(), drawn);
-    }
-}
-
-// The table of three regions, whose words are at 12, 13 and 14, and whose own words begin at 15, 79 and
-// 143, with these words in it.
-fn regions(
-    rt: &impl Abort,
-    alloc: Global,
-    entries: &[(u32, u64)],
-) -> Result<PlainWords, OutOfMemory> {
-    let mut words = PlainWords::zeros(alloc, 207)?;
-    for (at, entry) in entries.iter().copied() {
-        put(rt, &mut words, at, entry);
-    }
-    Ok(words)
-}
-
-// Headers, all `Plain` and `Even`: birth number 1 with 8 fields, 2 with 2, 3 with 30, 4 with 1; and birth
-// number 2 with 2 fields, `Dead`.
-const OF_TWO: u64 = 0x1041;
-
-const OF_THIRTY: u64 = 0x1bc1;
-
-const OF_ONE: u64 = 0x2021;
-
-const DEAD: u64 = 0x1047;
-
-const FILLED: u64 = 2;
-
-// The mark in the last field of the last object; and the common object is before it.
-#[test]
-fn finds_the_mark_in_the_last_field(rt: HostRuntime) -> Result<(), Fail> {
-    let layout = Layout::new(1, 1, 2, 0)?;
-    let entries = [
-        (12, FILLED),
-        (15, PLAIN),
-        (14, FILLED),
-        (143, OF_TWO),
-        (145, MARK),
-    ];
-    let mut words = regions(&rt, rt.alloc(), &entries)?;
-    let mut seek = SeekMarkMachine::new(&layout, MARK);
-    assert_eq!(rt; play(&rt, &mut words, &mut seek, 15), 15);
-    assert_eq!(rt; seek.end(), None);
-    assert_eq!(rt; play(&rt, &mut words, &mut seek, 20), 1);
-    let found = MarkFound { at: 143, field: 1 };
-    assert_eq!(rt; seek.end(), Some(SeekEnd::MarkFound(found)));
-    Ok(())
-}
-
-// Region 0 is full: two objects of 30 fields and one of 1. The word after it is the header of region 1's
-// object, and that is no object of region 0.
-#[test]
-fn ends_a_full_region(rt: HostRuntime) -> Result<(), Fail> {
-    let layout = Layout::new(1, 1, 2, 0)?;
-    let entries = [
-        (12, FILLED),
-        (15, OF_THIRTY),
-        (46, OF_THIRTY),
-        (77, OF_ONE),
-        (13, FILLED),
-        (79, OF_ONE),
-    ];
-    let mut words = regions(&rt, rt.alloc(), &entries)?;
-    let mut seek = SeekMarkMachine::new(&layout, MARK);
-    assert_eq!(rt; play(&rt, &mut words, &mut seek, 100), 70);
-    assert_eq!(rt; seek.end(), Some(SeekEnd::Clear));
-    Ok(())
-}
-
-// Two dead objects hold the mark, and are passed over.
-#[test]
-fn passes_over_dead_objects(rt: HostRuntime) -> Result<(), Fail> {
-    let layout = Layout::new(1, 1, 2, 0)?;
-    let entries = [
-        (12, FILLED),
-        (15, DEAD),
-        (16, MARK),
-        (18, DEAD),
-        (20, MARK),
-        (21, OF_ONE),
-    ];
-    let mut words = regions(&rt, rt.alloc(), &entries)?;
-    let mut seek = SeekMarkMachine::new(&layout, MARK);
-    assert_eq!(rt; play(&rt, &mut words, &mut seek, 100), 8);
-    assert_eq!(rt; seek.end(), Some(SeekEnd::Clear));
     Ok(())
 }

@@ -55,14 +55,14 @@ module _ (l : Sizes) (a : Announced) (acked : ℕ → ℕ) (all : AllAnswer l a 
 pub hand_stays : (l : Sizes) (a b : Announced) (acked : ℕ → ℕ) (pass word : ℕ) → AllAnswer l a acked → IsPass l pass → Advances l acked a b → IsInHand a (acked pass) word → IsInHand b (acked pass) word
 hand_stays l a b acked pass word all there Stays hand = hand
 hand_stays l a b acked pass word all there (Passes answered) hand = record { runs = hand.runs; announced_is = hand.announced_is; acked_not = hand.acked_not }
-hand_stays l a b acked pass word all there (Announces next over) hand =
+hand_stays l a b acked pass word all there (Announces next mark over) hand =
     absurd (omega (arith, over, there.1, (hand_is_before l a acked all pass there word hand).1))
 
 -- the announced word of a pass that has not answered stays
 pub announced_stays : (l : Sizes) (a b : Announced) (acked : ℕ → ℕ) (pass : ℕ) → AllAnswer l a acked → IsPass l pass → Advances l acked a b → acked pass ≢ retired_word → acked pass ≢ a.word → b.word ≡ a.word
 announced_stays l a b acked pass all there Stays runs waits = refl
 announced_stays l a b acked pass all there (Passes answered) runs waits = refl
-announced_stays l a b acked pass all there (Announces next over) runs waits = absurd (omega (arith, over, announced_waits l a acked all pass there runs waits))
+announced_stays l a b acked pass all there (Announces next mark over) runs waits = absurd (omega (arith, over, announced_waits l a acked all pass there runs waits))
 
 -- ---- what is kept
 
@@ -84,8 +84,8 @@ pub retires_keeps : (l : Sizes) (a : Announced) (acked after : ℕ → ℕ) (pas
 retires_keeps l a acked after pass put all = answer_keeps l a acked after pass retired_word (inl refl) put all
 
 -- with all passes passed, another word is announced, also one that was announced before
-pub announces_keeps : (l : Sizes) (a : Announced) (acked : ℕ → ℕ) (word : ℕ) → l.passes ≤ a.passed → AllAnswer l a acked → AllAnswer l (announcing a word) acked
-announces_keeps l a acked word over all pass there = elim (all_have_answered l a acked all pass there over) [
+pub announces_keeps : (l : Sizes) (a : Announced) (acked : ℕ → ℕ) (word mark : ℕ) → l.passes ≤ a.passed → AllAnswer l a acked → AllAnswer l (announcing a word mark) acked
+announces_keeps l a acked word mark over all pass there = elim (all_have_answered l a acked all pass there over) [
   | inl ended ↦ inl ended
   | inr answered ↦ inr (inr (answered, omega (arith, there.0)))
 ]
@@ -117,7 +117,7 @@ over_keeps l a acked next over all = passes_more l a acked next (λ pass there a
 pub advance_keeps : (l : Sizes) (a b : Announced) (acked : ℕ → ℕ) → Advances l acked a b → AllAnswer l a acked → AllAnswer l b acked
 advance_keeps l a b acked Stays all = all
 advance_keeps l a b acked (Passes answered) all = passes_keeps l a acked answered all
-advance_keeps l a b acked (Announces word over) all = announces_keeps l a acked word over all
+advance_keeps l a b acked (Announces word mark over) all = announces_keeps l a acked word mark over all
 
 -- where every pass has acknowledged the announced word
 pub all_same_keeps : (l : Sizes) (a : Announced) (acked : ℕ → ℕ) → ((pass : ℕ) → IsPass l pass → acked pass ≡ a.word) → AllAnswer l a acked
@@ -151,9 +151,9 @@ module _ (l : Sizes) (a : Announced) (m n acked : ℕ → ℕ) where
   }
 
   -- the collector's store of another word, with all passes passed
-  pub handshake_announce : (word : ℕ) → l.passes ≤ a.passed → Put m n phase_at word → Handshake l a m acked → Handshake l (announcing a word) n acked
-  handshake_announce word over put h = record {
-    keeps = announces_keeps l a acked word over h.keeps;
+  pub handshake_announce : (word mark : ℕ) → l.passes ≤ a.passed → Put m n phase_at word → Handshake l a m acked → Handshake l (announcing a word mark) n acked
+  handshake_announce word mark over put h = record {
+    keeps = announces_keeps l a acked word mark over h.keeps;
     shows = record { phase = put.here; acks = λ pass there. put.elsewhere (ack_at pass) (λ same. omega arith) ∙ h.shows.acks pass there };
   }
 

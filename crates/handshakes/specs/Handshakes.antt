@@ -3,11 +3,14 @@ use Rattle.std.specs.Prelude.{◌≡◌, ◌≢◌, ℕ, ◌+◌, ◌<◌, ◌�
 use Rattle.heap_words.specs.Layouts.{Sizes, IsPass, phase_at, ack_at}
 use Rattle.handshakes.specs.PhaseWords.{retired_word}
 
--- What is announced: the word, the word before it, and how many passes the await has passed: outside an await, all.
+-- What is announced: the word, the word before it, and how many passes the await has passed: outside an await, all. And the mark that a pass
+-- has once it has acknowledged the word, and the one that it has until then.
 pub record Announced : Type 0 where
   pub word : ℕ
   pub before : ℕ
   pub passed : ℕ
+  pub mark : ℕ
+  pub mark_before : ℕ
 
 -- a word that counts as the answer: the announced one, or that of a pass that has ended
 abbrev pub HasAnswered : Announced → ℕ → Type 0
@@ -17,15 +20,21 @@ HasAnswered a acked = (acked ≡ retired_word) ⊎ (acked ≡ a.word)
 abbrev pub Answers : Announced → ℕ → ℕ → Type 0
 Answers a pass acked = (acked ≡ retired_word) ⊎ ((acked ≡ a.word) ⊎ ((acked ≡ a.before) × (a.passed < pass)))
 
+-- and the pass's mark is the one that goes with it; a pass that has ended has none
+abbrev pub AnswersWith : Announced → ℕ → ℕ → ℕ → Type 0
+AnswersWith a pass acked mark =
+    ((acked ≡ retired_word) × (mark ≡ 0))
+    ⊎ (((acked ≡ a.word) × (mark ≡ a.mark)) ⊎ ((acked ≡ a.before) × (a.passed < pass) × (mark ≡ a.mark_before)))
+
 -- that of each pass
 abbrev pub AllAnswer : Sizes → Announced → (ℕ → ℕ) → Type 0
 AllAnswer l a acked = (pass : ℕ) → IsPass l pass → Answers a pass (acked pass)
 
 -- ---- what a collector makes of it
 
--- another word is announced, and nobody awaited yet
-abbrev pub announcing : Announced → ℕ → Announced
-announcing a word = record { word = word; before = a.word; passed = 0 }
+-- another word is announced, with the mark that goes with it, and nobody awaited yet
+abbrev pub announcing : Announced → ℕ → ℕ → Announced
+announcing a word mark = record { word = word; before = a.word; passed = 0; mark = mark; mark_before = a.mark }
 
 -- the await has passed the next pass
 abbrev pub passing : Announced → Announced
@@ -35,7 +44,7 @@ passing a = record a { passed = a.passed + 1 }
 pub data Advances (l : Sizes) (acked : ℕ → ℕ) (a : Announced) : Announced → Type 0 where
   Stays : Advances l acked a a
   Passes : HasAnswered a (acked (a.passed + 1)) → Advances l acked a (passing a)
-  Announces : (word : ℕ) → l.passes ≤ a.passed → Advances l acked a (announcing a word)
+  Announces : (word mark : ℕ) → l.passes ≤ a.passed → Advances l acked a (announcing a word mark)
 
 -- ---- a pass
 

@@ -4,6 +4,7 @@ use Rattle.std.specs.Option.{ForSome}
 use Rattle.std.proofs.Common.{sym, subst, ap, ◌∙◌, inl, inr, append-nil}
 use Rattle.std.proofs.lemmas.Bool.{eqb-true, eqb-false}
 use Rattle.call_steps.specs.declared.step.Step.TheVariants.{Load, Exchange, Ended}
+use Rattle.call_steps.specs.Ending.{Taken, LastStep, EndsOnlyFor, up_to, step_of, ends_only_for}
 use Rattle.heap_words.specs.FieldWords.{field_at, is_same_value}
 use Rattle.wide_objects.specs.declared.wide_word.Status2.{Status2}
 use Rattle.wide_objects.specs.declared.wide_word.Status2.TheVariants.{InOriginal, InWide, InCopy}
@@ -20,7 +21,6 @@ use Rattle.barriers.specs.declared.plain_exchange.TriesLeft.TheVariants.{Two, On
 use Rattle.barriers.specs.declared.plain_exchange.PlainExchange.TheVariants as plain
 use Rattle.barriers.specs.declared.exchange.ExchangeMachine.{ExchangeMachine}
 use Rattle.barriers.specs.declared.exchange.ExchangeMachine.TheVariants as rest_exchange
-use Rattle.barriers.specs.Ending.{Taken, LastStep, EndsOnlyFor, up_to, step_of, ends_only_for}
 use Rattle.barriers.specs.FollowCauses.{IsGiven, IsFollowing, follow_begins, found_at_once, follow_ends, followed, for_mapped}
 use Rattle.barriers.specs.Causes.{LacksField, len_at, ExchangeEndsFor, IsExchangeFor, exchange_keeps, exchange_ends}
 use Rattle.barriers.specs.Exchanges as rest_exchanges

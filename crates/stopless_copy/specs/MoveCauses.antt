@@ -5,13 +5,13 @@ use Rattle.std.proofs.Common.{subst, sym, ap, ◌∙◌, append_assoc}
 use Rattle.std.proofs.lemmas.Bool.{eqb-true, eqb-false}
 use Rattle.call_steps.specs.declared.step.Step.{Step}
 use Rattle.call_steps.specs.declared.step.Step.TheVariants.{Store, Exchange, Ended}
+use Rattle.call_steps.specs.Ending.{Taken, LastStep, EndsOnlyFor, up_to, step_of, ends_only_for}
 use Rattle.wide_objects.specs.declared.wide_word.Status2.{Status2}
 use Rattle.wide_objects.specs.declared.wide_word.Status2.TheVariants.{InOriginal, InWide, InCopy}
 use Rattle.wide_objects.specs.WideWords.{wide_word_at}
 use Rattle.space_reclaim.specs.declared.move_job.MoveJob.{MoveJob}
 use Rattle.barriers.specs.declared.ends.MoveEnd.{MoveEnd}
 use Rattle.barriers.specs.declared.ends.MoveEnd.TheVariants.{Moved, Kept}
-use Rattle.barriers.specs.Ending.{Taken, LastStep, EndsOnlyFor, up_to, step_of, ends_only_for}
 use Rattle.stopless_copy.specs.declared.mover.MoveHeaders.{MoveHeaders}
 use Rattle.stopless_copy.specs.declared.mover.MoveTask.{MoveTask}
 use Rattle.stopless_copy.specs.declared.mover.Carry.{Carry}

@@ -3,6 +3,7 @@ use Rattle.std.specs.Prelude.{◌≡◌, ◌≢◌, ℕ, ◌⊎◌, nat_lt, if�
 use Rattle.std.specs.Option.{ForSome}
 use Rattle.std.proofs.Common.{sym, subst, inl, inr, append-nil}
 use Rattle.call_steps.specs.declared.step.Step.TheVariants.{Load, Ended}
+use Rattle.call_steps.specs.Ending.{Taken, LastStep, EndsOnlyFor, up_to, step_of, ends_only_for}
 use Rattle.heap_words.specs.FieldWords.{field_at}
 use Rattle.wide_objects.specs.declared.wide_word.Status2.{Status2}
 use Rattle.wide_objects.specs.declared.wide_word.Status2.TheVariants.{InOriginal, InWide, InCopy}
@@ -13,7 +14,6 @@ use Rattle.barriers.specs.declared.ends.ReadEnd.{ReadEnd}
 use Rattle.barriers.specs.declared.ends.ReadEnd.TheVariants as read_end
 use Rattle.barriers.specs.declared.read.ReadMachine.{ReadMachine}
 use Rattle.barriers.specs.declared.read.ReadMachine.TheVariants as rest_read
-use Rattle.barriers.specs.Ending.{Taken, LastStep, EndsOnlyFor, up_to, step_of, ends_only_for}
 use Rattle.barriers.specs.FollowCauses.{IsGiven, IsFollowing, follow_begins, found_at_once, follow_ends, followed, for_mapped}
 use Rattle.barriers.specs.Causes.{LacksField, len_at, ReadEndsFor, IsReadFor, read_keeps, read_ends}
 use Rattle.barriers.specs.Reads as rest_reads

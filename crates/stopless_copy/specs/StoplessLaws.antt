@@ -71,6 +71,7 @@ steps_of_stopless = record {
 
 pub laws_of_stopless : Laws kit_of_stopless steps_of_stopless
 laws_of_stopless = record {
+  minds = refl;
   table = stopless_laws;
   cycle = stopless_cycle;
   movable = stopless_movable;

@@ -2,6 +2,7 @@
 use Rattle.std.specs.Prelude.{◌≡◌, ◌≢◌, ℕ, ◌+◌, ◌*◌, ◌/◌, ◌%◌, ◌^◌, ◌⊎◌, ◌==◌, nat_lt, if◌then◌else◌, Bool, true, false, List, [], ◌∷◌, ◌++◌, Option, Some, None, is_some, unwrap_or, refl}
 use Rattle.std.proofs.Common.{sym, ap, ◌∙◌, append_assoc, arith}
 use Rattle.call_steps.specs.declared.step.Step.TheVariants.{Load, Exchange}
+use Rattle.call_steps.specs.Ending.{Taken, LastStep}
 use Rattle.heap_words.specs.declared.field_word.FieldWord.{FieldWord}
 use Rattle.heap_words.specs.declared.field_word.FieldWord.TheVariants.{Num}
 use Rattle.heap_words.specs.FieldWords.{field_of, field_at}
@@ -17,7 +18,6 @@ use Rattle.barriers.specs.declared.spot.Spot.{Spot}
 use Rattle.barriers.specs.declared.plain_exchange.TriesLeft.{TriesLeft}
 use Rattle.barriers.specs.declared.plain_exchange.TriesLeft.TheVariants.{Two, One, Zero}
 use Rattle.barriers.specs.Causes.{len_at}
-use Rattle.barriers.specs.Ending.{Taken, LastStep}
 use Rattle.tagged_calls.specs.declared.location.Location.{Location}
 use Rattle.tagged_calls.specs.declared.location.Location.TheVariants as location
 use Rattle.tagged_calls.specs.Locations.{field_from, located, location_in}

@@ -4,6 +4,7 @@ use Rattle.std.specs.Option.{ForSome}
 use Rattle.std.proofs.Common.{sym, subst, ap, ◌∙◌, inl, inr, append-nil}
 use Rattle.std.proofs.lemmas.Bool.{eqb-true, eqb-false}
 use Rattle.call_steps.specs.declared.step.Step.TheVariants.{Load, Exchange, Ended}
+use Rattle.call_steps.specs.Ending.{Taken, LastStep, EndsOnlyFor, up_to, step_of, ends_only_for}
 use Rattle.wide_objects.specs.declared.wide_word.Status2.{Status2}
 use Rattle.wide_objects.specs.declared.wide_word.Status2.TheVariants.{InOriginal, InWide, InCopy}
 use Rattle.wide_objects.specs.WideWords.{wide_word_at}
@@ -15,7 +16,6 @@ use Rattle.barriers.specs.declared.plain_exchange.TriesLeft.{TriesLeft}
 use Rattle.barriers.specs.declared.plain_exchange.TriesLeft.TheVariants.{Two, One, Zero}
 use Rattle.barriers.specs.declared.write.WriteMachine.{WriteMachine}
 use Rattle.barriers.specs.declared.write.WriteMachine.TheVariants as rest_write
-use Rattle.barriers.specs.Ending.{Taken, LastStep, EndsOnlyFor, up_to, step_of, ends_only_for}
 use Rattle.barriers.specs.Causes.{LacksField, len_at, WriteEndsFor, IsWriteFor, write_keeps, write_ends}
 use Rattle.barriers.specs.Writes as rest_writes
 use Rattle.tagged_calls.specs.declared.placed.Placed.{Placed}

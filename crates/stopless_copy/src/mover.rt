@@ -2,8 +2,8 @@
 
 ghost use Rattle.std.specs.Prelude.{◌≡◌, ◌↔◌, IsSome};
 ghost use Rattle.call_steps.specs.declared.step.Step.TheVariants.{Ended as StepEnded};
+ghost use Rattle.call_steps.specs.Ending.{EndsOnlyFor};
 ghost use Rattle.wide_objects.specs.WideWords.{wide_word_at};
-ghost use Rattle.barriers.specs.Ending.{EndsOnlyFor};
 ghost use Rattle.stopless_copy.specs.StoplessMoves as moves;
 ghost use Rattle.stopless_copy.specs.MoveCauses.{MoveEnds};
 

@@ -5,11 +5,11 @@ use Rattle.std.proofs.Common.{subst, ap, ◌∙◌, inl, inr, append_assoc}
 use Rattle.std.proofs.lemmas.Bool.{ltb-false}
 use Rattle.call_steps.specs.declared.step.Step.{Step}
 use Rattle.call_steps.specs.declared.step.Step.TheVariants.{Load, Exchange, Ended}
+use Rattle.call_steps.specs.Ending.{Taken, LastStep, up_to, step_of}
 use Rattle.object_headers.specs.declared.header.State.{State as HeaderState}
 use Rattle.object_headers.specs.declared.header.State.TheVariants as states
 use Rattle.object_headers.specs.Headers.{header_at}
 use Rattle.barriers.specs.declared.spot.Spot.{Spot}
-use Rattle.barriers.specs.Ending.{Taken, LastStep, up_to, step_of}
 use Rattle.barriers.specs.Causes.{LacksField, len_at}
 use Rattle.tagged_calls.specs.declared.location.Keep.{Keep}
 use Rattle.tagged_calls.specs.declared.location.Location.{Location}

@@ -7,14 +7,18 @@ use Rattle.heap_words.specs.declared.limits.TheConstants.{ADDRESS_LIMIT, REGION_
 use Rattle.object_headers.specs.declared.header.State.{State as HeaderState}
 use Rattle.object_headers.specs.declared.header.State.TheVariants as states
 use Rattle.object_headers.specs.Headers.{header_at}
-use Rattle.clover_marks.specs.declared.seek.Search.{Search}
-use Rattle.clover_marks.specs.declared.seek.Cursor.{Cursor}
-use Rattle.clover_marks.specs.declared.seek.SeekEnd.{SeekEnd}
-use Rattle.clover_marks.specs.declared.seek.SeekEnd.TheVariants.{Clear, MarkFound}
-use Rattle.clover_marks.specs.declared.seek.SeekMarkMachine.{SeekMarkMachine}
-use Rattle.clover_marks.specs.declared.seek.SeekMarkMachine.TheVariants as seek
+use Rattle.mark_search.specs.declared.seek.Search.{Search}
+use Rattle.mark_search.specs.declared.seek.Cursor.{Cursor}
+use Rattle.mark_search.specs.declared.seek.SeekEnd.{SeekEnd}
+use Rattle.mark_search.specs.declared.seek.SeekEnd.TheVariants.{Clear, MarkFound}
+use Rattle.mark_search.specs.declared.seek.SeekMarkMachine.{SeekMarkMachine}
+use Rattle.mark_search.specs.declared.seek.SeekMarkMachine.TheVariants as seek
 
 -- ---- where it is
+
+-- the search for this candidate in a layout
+abbrev pub search_for : Sizes → ℕ → Search
+search_for l candidate = record { candidate = candidate; words_at = region_at l 0; first_at = first_word l 0; regions = regions_of l }
 
 -- the address of the word of a region
 abbrev pub word_of : Search → ℕ → ℕ
@@ -59,7 +63,7 @@ with_header s c word = let h = header_at word in by_state s c h.state h.len
 
 -- as it begins
 abbrev pub begun : Sizes → ℕ → SeekMarkMachine
-begun l candidate = seek.Region (record { candidate = candidate; words_at = region_at l 0; first_at = first_word l 0; regions = regions_of l }) 0
+begun l candidate = seek.Region (search_for l candidate) 0
 
 -- the step that it takes next
 abbrev pub asks_of : SeekMarkMachine → Step

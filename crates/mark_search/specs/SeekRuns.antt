@@ -1,15 +1,15 @@
 -- What a search has passed, and what it finds, whatever others do meanwhile.
 use Rattle.std.specs.Prelude.{◌≡◌, ◌≢◌, ℕ, ◌+◌, ◌<◌, ◌≤◌, ◌⊎◌, List, [], ◌∷◌, Some}
 use Rattle.call_steps.specs.declared.step.Step.TheVariants.{Load, Ended}
+use Rattle.call_steps.specs.Ending.{after}
 use Rattle.heap_words.specs.declared.limits.TheConstants.{REGION_WORDS}
 use Rattle.object_headers.specs.declared.header.State.TheVariants as states
 use Rattle.object_headers.specs.Headers.{header_at}
-use Rattle.barriers.specs.Ending.{after}
-use Rattle.clover_marks.specs.declared.seek.MarkFound.{MarkFound as Place}
-use Rattle.clover_marks.specs.declared.seek.SeekEnd.TheVariants.{Clear, MarkFound}
-use Rattle.clover_marks.specs.declared.seek.SeekMarkMachine.{SeekMarkMachine}
-use Rattle.clover_marks.specs.declared.seek.SeekMarkMachine.TheVariants as seek
-use Rattle.clover_marks.specs.Seeks.{first_of, address, asks_of, fed_of, end_of}
+use Rattle.mark_search.specs.declared.seek.MarkFound.{MarkFound as Place}
+use Rattle.mark_search.specs.declared.seek.SeekEnd.TheVariants.{Clear, MarkFound}
+use Rattle.mark_search.specs.declared.seek.SeekMarkMachine.{SeekMarkMachine}
+use Rattle.mark_search.specs.declared.seek.SeekMarkMachine.TheVariants as seek
+use Rattle.mark_search.specs.Seeks.{first_of, address, asks_of, fed_of, end_of}
 
 -- ---- what it finds
 
@@ -40,6 +40,13 @@ cursor_of (seek.Field s c len field) = address s c + 1 + field
 cursor_of (seek.Ended s Clear) = first_of s s.regions
 cursor_of (seek.Ended s (MarkFound place)) = place.at + 1 + place.field
 
+-- it is inside a region
+abbrev pub IsInside : SeekMarkMachine → Type 0
+IsInside (seek.Region s region) = region < s.regions
+IsInside (seek.Header s c) = (c.region < s.regions) × (c.offset < REGION_WORDS)
+IsInside (seek.Field s c len field) = (c.region < s.regions) × (field < len) × (c.offset + 1 + len ≤ REGION_WORDS)
+IsInside (seek.Ended s end) = Unit {0}
+
 -- a header that it finds is that of an object in its region
 abbrev pub FitsRegion : SeekMarkMachine → ℕ → Type 0
 FitsRegion (seek.Header s c) word = let h = header_at word in c.offset + 1 + h.len ≤ REGION_WORDS
@@ -56,6 +63,10 @@ Passes (seek.Region s region) word x = word ≡ 0
 Passes (seek.Header s c) word x = let h = header_at word in (x ≡ address s c) ⊎ ((h.state ≡ states.Dead) × (x < address s c + 1 + h.len)) ⊎ (h.state ≡ states.Absent)
 Passes (seek.Field s c len field) word x = (x ≡ address s c + 1 + field) × (word ≢ s.candidate)
 Passes (seek.Ended s end) word x = ⊥
+
+-- a step passes what is below its next cursor, and goes on inside
+abbrev pub Stepped : SeekMarkMachine → ℕ → SeekMarkMachine → Type 0
+Stepped m word next = ((x : ℕ) → cursor_of m ≤ x → x < cursor_of next → Passes m word x) × IsInside next
 
 -- one of these steps did
 abbrev pub PassedBy : SeekMarkMachine → List ℕ → ℕ → Type 0

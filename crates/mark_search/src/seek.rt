@@ -3,8 +3,8 @@
 ghost use Rattle.std.specs.Prelude.{◌≡◌, ◌*◌, ◌<◌, ◌↔◌, IsSome};
 ghost use Rattle.heap_words.specs.declared.limits.TheConstants.{ADDRESS_LIMIT};
 ghost use Rattle.call_steps.specs.declared.step.Step.TheVariants.{Ended as StepEnded};
-ghost use Rattle.clover_marks.specs.Seeks as seeks;
-ghost use Rattle.clover_marks.specs.SeekRuns.{EndsAtFirst, PassesBelow};
+ghost use Rattle.mark_search.specs.Seeks as seeks;
+ghost use Rattle.mark_search.specs.SeekRuns.{EndsAtFirst, PassesBelow};
 
 use call_steps::{Machine, Step};
 use heap_words::{ADDRESS_LIMIT, Layout, REGION_WORDS};

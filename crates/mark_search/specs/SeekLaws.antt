@@ -4,21 +4,21 @@ use Rattle.std.proofs.Common.{ap, sym, ◌∙◌, subst, arith, inl, inr, lit<}
 use Rattle.std.proofs.lemmas.Bool.{eqb-true, eqb-false}
 use Rattle.std.proofs.lemmas.Bool.Decides.{nat_tests}
 use Rattle.call_steps.specs.declared.step.Step.TheVariants.{Load, Ended}
+use Rattle.call_steps.specs.Ending.{after}
 use Rattle.heap_words.specs.Layouts.{Sizes, IsLayout, regions_of}
 use Rattle.heap_words.specs.declared.limits.TheConstants.{REGION_WORDS}
 use Rattle.object_headers.specs.declared.header.State.{State as HeaderState}
 use Rattle.object_headers.specs.declared.header.State.TheVariants as states
 use Rattle.object_headers.specs.Headers.{header_at}
-use Rattle.barriers.specs.Ending.{after}
-use Rattle.clover_marks.specs.declared.seek.Search.{Search}
-use Rattle.clover_marks.specs.declared.seek.Cursor.{Cursor}
-use Rattle.clover_marks.specs.declared.seek.MarkFound.{MarkFound as Place}
-use Rattle.clover_marks.specs.declared.seek.SeekEnd.{SeekEnd}
-use Rattle.clover_marks.specs.declared.seek.SeekEnd.TheVariants.{Clear, MarkFound}
-use Rattle.clover_marks.specs.declared.seek.SeekMarkMachine.{SeekMarkMachine}
-use Rattle.clover_marks.specs.declared.seek.SeekMarkMachine.TheVariants as seek
-use Rattle.clover_marks.specs.Seeks.{first_of, address, next_region, next_object, next_field, after_field, by_state, begun, asks_of, fed_of, end_of}
-use Rattle.clover_marks.specs.SeekRuns.{IsAtField, Unfound, EndsAtFirst, cursor_of, FitsRegion, FitsAlong, Passes, PassedBy, PassesBelow}
+use Rattle.mark_search.specs.declared.seek.Search.{Search}
+use Rattle.mark_search.specs.declared.seek.Cursor.{Cursor}
+use Rattle.mark_search.specs.declared.seek.MarkFound.{MarkFound as Place}
+use Rattle.mark_search.specs.declared.seek.SeekEnd.{SeekEnd}
+use Rattle.mark_search.specs.declared.seek.SeekEnd.TheVariants.{Clear, MarkFound}
+use Rattle.mark_search.specs.declared.seek.SeekMarkMachine.{SeekMarkMachine}
+use Rattle.mark_search.specs.declared.seek.SeekMarkMachine.TheVariants as seek
+use Rattle.mark_search.specs.Seeks.{first_of, address, next_region, next_object, next_field, after_field, by_state, begun, asks_of, fed_of, end_of}
+use Rattle.mark_search.specs.SeekRuns.{IsAtField, Unfound, EndsAtFirst, cursor_of, IsInside, FitsRegion, FitsAlong, Stepped, PassedBy, PassesBelow}
 
 -- ---- what becomes of it
 
@@ -148,13 +148,6 @@ ends_at_first l candidate = record {
 
 -- ---- what it has passed
 
--- it is inside a region
-abbrev IsInside : SeekMarkMachine → Type 0
-IsInside (seek.Region s region) = region < s.regions
-IsInside (seek.Header s c) = (c.region < s.regions) × (c.offset < REGION_WORDS)
-IsInside (seek.Field s c len field) = (c.region < s.regions) × (field < len) × (c.offset + 1 + len ≤ REGION_WORDS)
-IsInside (seek.Ended s end) = Unit {0}
-
 -- it goes on inside, with its cursor here
 abbrev Comes : SeekMarkMachine → ℕ → Type 0
 Comes m at = (cursor_of m ≡ at) × IsInside m
@@ -191,10 +184,6 @@ after_next s c len field inside fits lt =
     let on : nat_lt field len ≡ true = grind (arith, nat_tests, lt) in
     subst (λ (b : Bool). Comes (if b then next_field s c len (field + 1) else next_object s c len) (address s c + 1 + (field + 1))) (sym on) (field_next s c len (field + 1) inside fits (omega (arith, lt)))
 
--- a step passes what is below its next cursor, and goes on inside
-abbrev Stepped : SeekMarkMachine → ℕ → SeekMarkMachine → Type 0
-Stepped m word next = ((x : ℕ) → cursor_of m ≤ x → x < cursor_of next → Passes m word x) × IsInside next
-
 region_stepped : (s : Search) (region word : ℕ) → region < s.regions → (b : Bool) → (word == 0) ≡ b → Stepped (seek.Region s region) word (if b then next_region s region else seek.Header s (record { region = region; offset = 0 }))
 region_stepped s region word inside true e = let next = region_next s region inside in (λ x low high. eqb-true word 0 e, next.1)
 region_stepped s region word inside false e = (λ x low high. absurd (omega (arith, low, high)), (inside, lit< tt))
@@ -225,7 +214,8 @@ field_stepped s c len field word inside fits lt false e =
     let next = after_next s c len field inside fits lt in
     (λ x low high. let at : cursor_of (after_field s c len field) ≡ address s c + 1 + (field + 1) = next.0 in (omega (arith, low, high, at), eqb-false word s.candidate e), next.1)
 
-stepped : (m : SeekMarkMachine) (word : ℕ) → IsInside m → FitsRegion m word → Stepped m word (fed_of m word)
+-- so each of its steps does, whatever it finds that fits its region
+pub stepped : (m : SeekMarkMachine) (word : ℕ) → IsInside m → FitsRegion m word → Stepped m word (fed_of m word)
 stepped (seek.Region s region) word inside fits = region_stepped s region word inside (word == 0) refl
 stepped (seek.Header s c) word inside fits = let h = header_at word in state_stepped s c word h.state refl inside.0 fits
 stepped (seek.Field s c len field) word inside fits = field_stepped s c len field word inside.0 inside.2 inside.1 (word == s.candidate) refl
@@ -247,5 +237,9 @@ passes_below m (word ∷ rest) x inside fits low high =
 some_region : (l : Sizes) → IsLayout l → 0 < regions_of l
 some_region l is = let pool = is.pool in omega (arith, pool.0)
 
+-- it begins inside
+pub begun_inside : (l : Sizes) (candidate : ℕ) → IsLayout l → IsInside (begun l candidate)
+begun_inside l candidate is = some_region l is
+
 pub passes_all : (l : Sizes) (candidate : ℕ) → IsLayout l → PassesBelow (begun l candidate)
-passes_all l candidate is words fits x low high = passes_below (begun l candidate) words x (some_region l is) fits low high
+passes_all l candidate is words fits x low high = passes_below (begun l candidate) words x (begun_inside l candidate is) fits low high
