@@ -8,6 +8,7 @@ use Rattle.call_steps.specs.declared.step.Step.TheVariants.{Ended}
 use Rattle.call_steps.specs.Steps.{place_of, applied, IsInside}
 use Rattle.call_steps.specs.Turns.{still}
 use Rattle.heap_words.specs.Layouts.{Sizes, IsLayout, words_of}
+use Rattle.object_headers.specs.Changes.{is_clover}
 use Rattle.barriers.specs.Knowns.{Known}
 use Rattle.barriers.specs.Kits.{Kit, Stepping, Laws}
 use Rattle.barriers.specs.Spaces.{Space}
@@ -21,7 +22,7 @@ use Rattle.lawful_records.specs.Opening.{opening_words, opening_parties}
 use Rattle.lawful_records.specs.PassTurns.{IsAnnounced}
 use Rattle.lawful_records.specs.Records.{known_of}
 use Rattle.space_reclaim.specs.declared.move_job.MoveJob.{MoveJob}
-use Rattle.lawful_records.specs.Collectors.{seals_of}
+use Rattle.lawful_records.specs.Collectors.{drawn_of, seals_of}
 use Rattle.lawful_records.specs.Turns.{pass_asks, pass_fed, collector_asks, party_asks, turned}
 use Rattle.lawful_records.specs.declared.collector.CollectorMachine.{CollectorMachine}
 use Rattle.lawful_records.specs.declared.records.CollectorKnown.{CollectorKnown}
@@ -31,7 +32,7 @@ use Rattle.lawful_records.specs.declared.records.Party.TheVariants as party
 use Rattle.lawful_records.proofs.beginnings.Starts.{begins_on}
 use Rattle.lawful_records.proofs.calls.CallSteps.{CallKept}
 use Rattle.lawful_records.proofs.collecting.CollectorTurns.{collector_inside, collector_plays, collector_alone, collector_heads, collector_keeps}
-use Rattle.lawful_records.proofs.collecting.Stages.{announced_is}
+use Rattle.lawful_records.proofs.collecting.Announcing.{announced_is}
 use Rattle.lawful_records.proofs.opening.Opens.{opens}
 use Rattle.lawful_records.proofs.parties.PassKeeps.{stands_of}
 use Rattle.lawful_records.proofs.turns.Heads.{pass_heads}
@@ -61,12 +62,12 @@ module _ {R W E M : Type 0} (kit : Kit R W E M) where
   plays l k s n (party.Collector q ∷ rs) some each = let is = All-head (IsParty kit l k s n) (party.Collector q) rs each in (is.cycles, is.few, is.collects)
 
   -- what it announces is an announcement to every pass
-  pub announced : (l : Sizes) (words : List ℕ) (rs : List (Party R W E M)) (w : LawfulRecords kit l words rs) → IsAnnounced l (announced_by w.collector) (cycle_of w.collector)
-  announced l words rs w = let is = plays l w.collector w.space w.notices rs (omega (arith, w.parties.collector)) w.each in announced_is l kit.kind is.0 is.1 w.collector is.2
+  pub announced : kit.minds ≡ is_clover kit.kind → (l : Sizes) (words : List ℕ) (rs : List (Party R W E M)) (w : LawfulRecords kit l words rs) → IsAnnounced kit.minds l (announced_by w.collector) (cycle_of w.collector) (drawn_of w.collector)
+  announced minds l words rs w = let is = plays l w.collector w.space w.notices rs (omega (arith, w.parties.collector)) w.each in announced_is kit.minds l kit.kind is.0 is.1 minds w.collector is.2
 
 module _ {R W E M : Type 0} (kit : Kit R W E M) (by : Stepping R W E M) (laws : Laws kit by) where
   pub lawful_inside : (l : Sizes) (words : List ℕ) (others : List (Party R W E M)) (r : Party R W E M) → LawfulRecords kit l words (r ∷ others) → IsInside (words_of l) (party_asks kit by r)
-  lawful_inside l words others (party.Pass p) w = own_inside kit by laws laws.cycle l words p others w (announced kit l words (party.Pass p ∷ others) w)
+  lawful_inside l words others (party.Pass p) w = own_inside kit by laws laws.cycle l words p others w (announced kit laws.minds l words (party.Pass p ∷ others) w)
   lawful_inside l words others (party.Collector q) w = collector_inside kit by laws l words others q w
 
   pub lawful_starts : (l : Sizes) (words : List ℕ) (others : List (Party R W E M)) (r now : Party R W E M) → LawfulRecords kit l words (r ∷ others) → BeginsOn kit l r now → LawfulRecords kit l words (now ∷ others)
@@ -74,7 +75,7 @@ module _ {R W E M : Type 0} (kit : Kit R W E M) (by : Stepping R W E M) (laws : 
 
   pub record_keeps : (l : Sizes) (words : List ℕ) (others : List (Party R W E M)) (r : Party R W E M) → LawfulRecords kit l words (r ∷ others) → party_asks kit by r ≢ Ended
       → LawfulRecords kit l (applied (party_asks kit by r) words) (turned kit by others r (slice_index words (place_of (party_asks kit by r))) ∷ others)
-  record_keeps l words others (party.Pass p) w on = own_keeps kit by laws laws.cycle l words p others w (announced kit l words (party.Pass p ∷ others) w) on
+  record_keeps l words others (party.Pass p) w on = own_keeps kit by laws laws.cycle l words p others w (announced kit laws.minds l words (party.Pass p ∷ others) w) on
   record_keeps l words others (party.Collector q) w on = collector_keeps kit by laws l words others q w on
 
   -- the same of words that fit, as the trait has it
@@ -83,20 +84,20 @@ module _ {R W E M : Type 0} (kit : Kit R W E M) (by : Stepping R W E M) (laws : 
   lawful_keeps l words others r w on small = record_keeps l words others r w on
 
   -- the start is lawful
-  pub lawful_opens : (l : Sizes) (cycles : ℕ) → IsLayout l → cycles ≤ 64 → LawfulRecords kit l (opening_words l) (opening_parties kit l cycles)
-  lawful_opens l cycles fits few = opens kit by laws l fits cycles few
+  pub lawful_opens : (l : Sizes) (cycles salt : ℕ) → IsLayout l → cycles ≤ 64 → LawfulRecords kit l (opening_words l) (opening_parties kit l cycles salt)
+  lawful_opens l cycles salt fits few = opens kit by laws l fits cycles few salt
 
   -- by a step every header changes as the table of allowed changes says
   pub lawful_heads : (l : Sizes) (words : List ℕ) (others : List (Party R W E M)) (r : Party R W E M) → LawfulRecords kit l words (r ∷ others) → party_asks kit by r ≢ Ended → HeadersChange kit.kind l words (applied (party_asks kit by r) words)
   lawful_heads l words others (party.Pass p) w on =
       pass_heads kit by l words p others w kit.kind (let movable = laws.movable in movable.keeps)
-      (turn_of kit by laws laws.cycle l (announced_by w.collector) (cycle_of w.collector) w.space w.notices words p (stands_of kit by l words p others w (announced kit l words (party.Pass p ∷ others) w)) on)
+      (turn_of kit by laws laws.cycle l (announced_by w.collector) (cycle_of w.collector) w.space w.notices words p (stands_of kit by l words p others w (announced kit laws.minds l words (party.Pass p ∷ others) w)) on)
   lawful_heads l words others (party.Collector q) w on = collector_heads kit by laws l words others q w on
 
   -- the call that a pass is in stays what it is over its step, and ends only as such a call does
   pub lawful_calls : (l : Sizes) (words : List ℕ) (others : List (Party R W E M)) (p : PassKnown R W E) → LawfulRecords kit l words (party.Pass p ∷ others) → pass_asks kit by p.pass.machine ≢ Ended
       → (k next : Known) → known_of kit p.pass.machine ≡ Some k → known_of kit (pass_fed kit by p.pass.machine (slice_index words (place_of (pass_asks kit by p.pass.machine)))) ≡ Some next → CallKept k next
-  lawful_calls l words others p w on = own_kept kit by laws laws.cycle l words p others w (announced kit l words (party.Pass p ∷ others) w) on
+  lawful_calls l words others p w on = own_kept kit by laws laws.cycle l words p others w (announced kit laws.minds l words (party.Pass p ∷ others) w) on
 
   -- the collector plays its cycles over the layout
   pub lawful_plays : (l : Sizes) (words : List ℕ) (others : List (Party R W E M)) (q : CollectorKnown M) → LawfulRecords kit l words (party.Collector q ∷ others) → (cycles : ℕ) × IsCollector l kit.kind cycles q.machine

@@ -1,16 +1,27 @@
 -- The turns of the collector.
+pub mod Advancing
+pub mod Announcing
 pub mod Answering
 pub mod CollectorTurns
 pub mod FirstJobs
+pub mod Fitting
 pub mod Goes
+pub mod HeardGoes
 pub mod HeardTurns
 pub mod JobBegins
 pub mod MoveSeals
 pub mod MoveTurns
 pub mod MoveWork
+pub mod Passing
 pub mod Phasing
 pub mod Playing
 pub mod SealTurns
+pub mod SearchBegins
+pub mod SearchTurns
+pub mod SeekTurns
+pub mod Seeking
+pub mod Shaken
+pub mod Sought
 pub mod Stages
 pub mod TagTurns
 pub mod WorkTurns

@@ -4,5 +4,7 @@ pub mod Machines
 pub mod PassStays
 pub mod Regions
 pub mod SealStays
+pub mod SearchStays
 pub mod SeenTurns
+pub mod SpareStays
 pub mod Unborn

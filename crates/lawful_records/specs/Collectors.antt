@@ -1,9 +1,10 @@
 -- The collector's machine, and what it has announced.
-use Rattle.std.specs.Prelude.{◌≡◌, ◌≤◌, ℕ, ◌+◌, ◌-◌, Bool, true, false, nat_lt, if◌then◌else◌, Option, Some, None, refl}
+use Rattle.std.specs.Prelude.{◌≡◌, ◌≤◌, ℕ, ◌+◌, ◌-◌, ◌==◌, ◌&&◌, Bool, true, false, not, nat_lt, if◌then◌else◌, Option, Some, None, refl}
 use Rattle.call_steps.specs.declared.step.Step.{Step}
 use Rattle.call_steps.specs.declared.step.Step.TheVariants.{Store, Exchange, Ended}
-use Rattle.heap_words.specs.Layouts.{Sizes, phase_at, ack_at, region_at}
+use Rattle.heap_words.specs.Layouts.{Sizes, phase_at, mark_at as mark_at_word, ack_at, region_at}
 use Rattle.object_headers.specs.declared.change.Kind.{Kind}
+use Rattle.object_headers.specs.Changes.{is_clover}
 use Rattle.handshakes.specs.declared.phase_word.Phase.{Phase}
 use Rattle.handshakes.specs.declared.phase_word.Phase.TheVariants as phases
 use Rattle.handshakes.specs.declared.phase_word.PhaseWord.{PhaseWord}
@@ -16,13 +17,20 @@ use Rattle.handshakes.specs.Awaits as awaits
 use Rattle.space_reclaim.specs.declared.move_job.MoveJob.{MoveJob}
 use Rattle.space_reclaim.specs.declared.region_word.RegionWord.TheVariants as regions
 use Rattle.space_reclaim.specs.RegionWords.{word_of_region}
+use Rattle.mark_search.specs.declared.seek.SeekEnd.{SeekEnd}
+use Rattle.mark_search.specs.declared.seek.SeekEnd.TheVariants.{Clear, MarkFound}
+use Rattle.mark_search.specs.declared.seek.SeekMarkMachine.{SeekMarkMachine}
+use Rattle.mark_search.specs.Draws.{candidates_of, last_of, drawn_on}
+use Rattle.mark_search.specs.declared.candidates.Candidates.{Candidates}
+use Rattle.mark_search.specs.Seeks as seeks
 use Rattle.barriers.specs.declared.ends.MoveEnd.{MoveEnd}
 use Rattle.barriers.specs.Kits.{Kit}
 use Rattle.lawful_records.specs.declared.job.TheConstants.{EMPTIED, FILLED}
-use Rattle.lawful_records.specs.declared.collector.Announcement.{Announcement}
-use Rattle.lawful_records.specs.declared.collector.Announcement.TheVariants.{Mark, Confirm, Copy, Fix, Free}
-use Rattle.lawful_records.specs.declared.collector.Stage.{Stage}
-use Rattle.lawful_records.specs.declared.collector.Awaited.{Awaited}
+use Rattle.lawful_records.specs.declared.stage.Announcement.{Announcement}
+use Rattle.lawful_records.specs.declared.stage.Announcement.TheVariants.{Mark, Confirm, Search, Copy, Fix, Free}
+use Rattle.lawful_records.specs.declared.stage.TheConstants.{SEARCHES, LAST_ROUND}
+use Rattle.lawful_records.specs.declared.stage.Stage.{Stage}
+use Rattle.lawful_records.specs.declared.awaited.Awaited.{Awaited}
 use Rattle.lawful_records.specs.declared.collector.CollectorMachine.{CollectorMachine}
 use Rattle.lawful_records.specs.declared.collector.CollectorMachine.TheVariants as collector
 use Rattle.lawful_records.specs.Jobs.{job_in, tagged_word, does_seal}
@@ -32,36 +40,79 @@ use Rattle.lawful_records.specs.Jobs.{job_in, tagged_word, does_seal}
 abbrev pub phase_of : Announcement → Phase
 phase_of Mark = phases.Mark
 phase_of Confirm = phases.Confirm
+phase_of Search = phases.Copy
 phase_of Copy = phases.Copy
 phase_of Fix = phases.Fix
 phase_of Free = phases.Free
 
--- the first round of a phase
-abbrev pub round_of : Announcement → ℕ
-round_of Mark = 0
-round_of Confirm = 1
-round_of Copy = 0
-round_of Fix = 0
-round_of Free = 0
+-- the round of its phase word: 1 at Confirm; of a Search its number; and after a search 9 at Copy
+abbrev pub round_by : Announcement → Kind → ℕ → ℕ
+round_by Mark kind round = 0
+round_by Confirm kind round = 1
+round_by Search kind round = round
+round_by Copy kind round = if is_clover kind then LAST_ROUND else 0
+round_by Fix kind round = 0
+round_by Free kind round = 0
 
--- an announcement in a cycle
-abbrev pub said_in : Announcement → ℕ → PhaseWord
-said_in a cycle = record { phase = phase_of a; cycle = cycle; round = round_of a }
+abbrev pub round_of : Stage → ℕ
+round_of s = round_by s.announcement s.kind s.marks.round
+
+-- an announcement in a cycle, with this round
+abbrev pub said_in : Announcement → ℕ → ℕ → PhaseWord
+said_in a cycle round = record { phase = phase_of a; cycle = cycle; round = round }
 
 -- what a stage announces
 abbrev pub said_of : Stage → PhaseWord
-said_of s = said_in s.announcement s.cycle
+said_of s = said_in s.announcement s.cycle (round_of s)
 
 -- its phase word
 abbrev pub word_of : Stage → ℕ
 word_of s = word_of_phase (said_of s)
 
+-- ---- marks
+
+-- what the mark word holds while it is announced: the candidate drawn last
+abbrev pub mark_word : Stage → ℕ
+mark_word s = last_of s.marks.candidates
+
+-- the mark of a pass that has acknowledged it
+abbrev pub mark_by : Announcement → ℕ → ℕ
+mark_by Mark mark = 0
+mark_by Confirm mark = 0
+mark_by Search mark = mark
+mark_by Copy mark = mark
+mark_by Fix mark = mark
+mark_by Free mark = 0
+
+abbrev pub mark_at : Stage → ℕ
+mark_at s = mark_by s.announcement (mark_word s)
+
+-- the search for the next candidate, with this number in its cycle
+abbrev pub searched : Stage → ℕ → Stage
+searched s round = record s { announcement = Search; marks = record { candidates = drawn_on s.marks.candidates; round = round; clear = false } }
+
+-- before the last draw
+abbrev pub undrawn : Candidates → Candidates
+undrawn c = record c { drawn = c.drawn - 1 }
+
+-- the stage before that search
+abbrev pub unsearched : Stage → Stage
+unsearched s = record s {
+  announcement = if s.marks.round == 1 then Confirm else Search;
+  marks = record s.marks { candidates = undrawn s.marks.candidates; round = s.marks.round - 1 };
+}
+
+-- eight searches have found their candidates
+abbrev pub is_refused : Stage → Bool
+is_refused s = is_clover s.kind && not s.marks.clear
+
 -- the announcement directly before it; that before Mark is Free of the cycle before
 abbrev pub before_by : Announcement → Stage → Stage
 before_by Mark s = record s { cycle = s.cycle - 1; announcement = Free }
 before_by Confirm s = record s { announcement = Mark }
-before_by Copy s = record s { announcement = Confirm }
-before_by Fix s = record s { announcement = Copy }
+before_by Search s = unsearched s
+before_by Copy s = record s { announcement = if is_clover s.kind then Search else Confirm }
+before_by Fix s = record s { announcement = if is_refused s then Search else Copy }
 before_by Free s = record s { announcement = Fix }
 
 abbrev pub stage_before : Stage → Stage
@@ -74,8 +125,8 @@ planned s = job_in s.kind s.layout s.cycle
 -- ---- the machine
 
 -- no cycle has begun, which is as if Free of cycle 0 had been announced and awaited
-abbrev pub stage_at_start : Kind → Sizes → ℕ → Stage
-stage_at_start kind l cycles = record { layout = l; kind = kind; cycles = cycles; cycle = 0; announcement = Free }
+abbrev pub stage_at_start : Kind → Sizes → ℕ → ℕ → Stage
+stage_at_start kind l cycles salt = record { layout = l; kind = kind; cycles = cycles; cycle = 0; announcement = Free; marks = record { candidates = candidates_of salt; round = 0; clear = false } }
 
 module _ {M : Type 0} where
   -- the look at a pass's acknowledgement
@@ -86,15 +137,33 @@ module _ {M : Type 0} where
   abbrev pub announce : Stage → Announcement → CollectorMachine M
   announce s next = collector.Announce (record s { announcement = next })
 
-  -- before Copy is announced the object of the job is tagged
+  -- before Copy is announced a mark is sought, or the object of the job is tagged
+  abbrev pub to_tag : Option MoveJob → Stage → CollectorMachine M
+  to_tag None s = announce s Copy
+  to_tag (Some job) s = collector.Source (record s { announcement = Copy }) job
+
   abbrev pub to_copy : Option MoveJob → Stage → CollectorMachine M
-  to_copy None s = announce s Copy
-  to_copy (Some job) s = collector.Source (record s { announcement = Copy }) job
+  to_copy job s = if is_clover s.kind then collector.Draw (searched s 1) else to_tag job s
+
+  -- all passes have the candidate as their mark
+  abbrev pub seek_at : Stage → CollectorMachine M
+  seek_at s = collector.Seek s (seeks.begun s.layout (mark_word s))
+
+  -- after a step of the search, which has ended so
+  abbrev pub sought : Stage → SeekMarkMachine → Option SeekEnd → CollectorMachine M
+  sought s m None = collector.Seek s m
+  sought s m (Some Clear) = collector.Announce (record s { announcement = Copy; marks = record s.marks { clear = true } })
+  sought s m (Some (MarkFound place)) = if nat_lt s.marks.round SEARCHES then collector.Draw (searched s (s.marks.round + 1)) else announce s Fix
+
+  abbrev pub sought_on : Stage → SeekMarkMachine → CollectorMachine M
+  sought_on s m = sought s m (seeks.end_of m)
 
   -- the step that it takes next, where its mover asks so
   abbrev pub asks_of : (M → Step) → CollectorMachine M → Step
   asks_of asks (collector.Announce s) = Store phase_at (word_of s)
   asks_of asks (collector.Await s pass m) = awaits.asks_of m
+  asks_of asks (collector.Draw s) = Store mark_at_word (mark_word s)
+  asks_of asks (collector.Seek s m) = seeks.asks_of m
   asks_of asks (collector.Source s job) = Store (region_at s.layout EMPTIED) (word_of_region regions.Source)
   asks_of asks (collector.Target s job) = Store (region_at s.layout FILLED) (word_of_region regions.Target)
   asks_of asks (collector.Tag s job) = Exchange job.from job.header (tagged_word job.header)
@@ -106,16 +175,30 @@ module _ {M : Type 0} where
   seals_of (collector.Move s job m) step found = if does_seal job.from step found then Some job else None
   seals_of k step found = None
 
+  -- what its search has ended with, if it ends by the step that finds this word
+  abbrev pub seek_ended : CollectorMachine M → ℕ → Option SeekEnd
+  seek_ended (collector.Seek s m) found = seeks.end_of (seeks.fed_of m found)
+  seek_ended k found = None
+
 module _ {R W E M : Type 0} (kit : Kit R W E M) where
+  -- the move of a job's object, before this is announced
+  abbrev pub move_at : Stage → MoveJob → CollectorMachine M
+  move_at s job = collector.Move s job (kit.starts_move s.layout job (mark_word s))
+
   -- before Fix is announced the object of the job is moved
   abbrev pub to_fix : Option MoveJob → Stage → CollectorMachine M
   to_fix None s = announce s Fix
-  to_fix (Some job) s = collector.Move (record s { announcement = Fix }) job (kit.starts_move s.layout job 0)
+  to_fix (Some job) s = if is_clover s.kind then collector.Source (record s { announcement = Fix }) job else move_at (record s { announcement = Fix }) job
+
+  -- with the words of the job's regions stored it is tagged, or moved
+  abbrev pub targeted : Stage → MoveJob → CollectorMachine M
+  targeted s job = if is_clover s.kind then move_at s job else collector.Tag s job
 
   -- all passes have answered: the next announcement comes, and after Free the next cycle, if there is one
   abbrev pub behind_by : Announcement → Stage → CollectorMachine M
   behind_by Mark s = announce s Confirm
   behind_by Confirm s = to_copy (planned s) s
+  behind_by Search s = seek_at s
   behind_by Copy s = to_fix (planned s) s
   behind_by Fix s = announce s Free
   behind_by Free s =
@@ -146,8 +229,10 @@ module _ {R W E M : Type 0} (kit : Kit R W E M) where
   abbrev pub fed_of : (M → ℕ → M) → CollectorMachine M → ℕ → CollectorMachine M
   fed_of fed (collector.Announce s) found = look s 1
   fed_of fed (collector.Await s pass m) found = looked s pass m (awaits.end_of (awaits.fed_of m found))
+  fed_of fed (collector.Draw s) found = collector.Announce s
+  fed_of fed (collector.Seek s m) found = sought_on s (seeks.fed_of m found)
   fed_of fed (collector.Source s job) found = collector.Target s job
-  fed_of fed (collector.Target s job) found = collector.Tag s job
+  fed_of fed (collector.Target s job) found = targeted s job
   fed_of fed (collector.Tag s job) found = collector.Announce s
   fed_of fed (collector.Move s job m) found = moved_on s job (fed m found)
   fed_of fed (collector.Done s) found = collector.Done s
@@ -161,14 +246,16 @@ module _ {R W E M : Type 0} (kit : Kit R W E M) where
   move_ended fed (collector.Move s job m) found = ended_with job (kit.move_ended (fed m found))
   move_ended fed k found = None
 
-  abbrev pub collector_of : Sizes → ℕ → CollectorMachine M
-  collector_of l cycles = behind_by Free (stage_at_start kit.kind l cycles)
+  abbrev pub collector_of : Sizes → ℕ → ℕ → CollectorMachine M
+  collector_of l cycles salt = behind_by Free (stage_at_start kit.kind l cycles salt)
 
   -- after a store it goes on alike for every word, as its mover does
   pub blind_of : (asks : M → Step) (fed : M → ℕ → M) → ((m : M) (at put n : ℕ) → asks m ≡ Store at put → fed m n ≡ fed m 0) → (k : CollectorMachine M) (at put n : ℕ) → asks_of asks k ≡ Store at put → fed_of fed k n ≡ fed_of fed k 0
   blind_of asks fed blind (collector.Announce s) at put n is = refl
   blind_of asks fed blind (collector.Await s pass (await.Acknowledgement place p word)) at put n is = absurd cc
   blind_of asks fed blind (collector.Await s pass (await.Ended e)) at put n is = refl
+  blind_of asks fed blind (collector.Draw s) at put n is = refl
+  blind_of asks fed blind (collector.Seek s m) at put n is = rw (seeks.blind_of m at put n is) refl
   blind_of asks fed blind (collector.Source s job) at put n is = refl
   blind_of asks fed blind (collector.Target s job) at put n is = refl
   blind_of asks fed blind (collector.Tag s job) at put n is = refl
@@ -186,6 +273,8 @@ module _ {M : Type 0} where
   abbrev pub stage_of : CollectorMachine M → Stage
   stage_of (collector.Announce s) = stage_before s
   stage_of (collector.Await s pass m) = s
+  stage_of (collector.Draw s) = stage_before s
+  stage_of (collector.Seek s m) = s
   stage_of (collector.Source s job) = stage_before s
   stage_of (collector.Target s job) = stage_before s
   stage_of (collector.Tag s job) = stage_before s
@@ -200,10 +289,24 @@ module _ {M : Type 0} where
   abbrev pub before_of : CollectorMachine M → ℕ
   before_of k = word_of (stage_before (stage_of k))
 
+  -- what the mark word holds
+  abbrev pub drawn_of : CollectorMachine M → ℕ
+  drawn_of (collector.Announce s) = mark_word s
+  drawn_of (collector.Await s pass m) = mark_word s
+  drawn_of (collector.Draw s) = mark_word (stage_before s)
+  drawn_of (collector.Seek s m) = mark_word s
+  drawn_of (collector.Source s job) = mark_word s
+  drawn_of (collector.Target s job) = mark_word s
+  drawn_of (collector.Tag s job) = mark_word s
+  drawn_of (collector.Move s job m) = mark_word s
+  drawn_of (collector.Done s) = mark_word s
+
   -- how many passes the await has passed, in rising number: all of them outside an await
   abbrev pub passed_of : CollectorMachine M → ℕ
   passed_of (collector.Announce s) = s.layout.passes
   passed_of (collector.Await s pass m) = pass - 1
+  passed_of (collector.Draw s) = s.layout.passes
+  passed_of (collector.Seek s m) = s.layout.passes
   passed_of (collector.Source s job) = s.layout.passes
   passed_of (collector.Target s job) = s.layout.passes
   passed_of (collector.Tag s job) = s.layout.passes
@@ -220,6 +323,7 @@ none_awaited = record { mark = 0; confirm = 0; copy = 0; fix = 0; free = 0 }
 abbrev pub with_await : Announcement → ℕ → Awaited → Awaited
 with_await Mark changes h = record h { mark = changes }
 with_await Confirm changes h = record h { confirm = changes }
+with_await Search changes h = h
 with_await Copy changes h = record h { copy = changes }
 with_await Fix changes h = record h { fix = changes }
 with_await Free changes h = record h { free = changes }

@@ -1,13 +1,16 @@
 -- What the turn of one party leaves of what the others stand on.
-use Rattle.std.specs.Prelude.{◌≡◌, ◌≢◌, ℕ, ◌<◌, ◌≤◌, ◌⊎◌, IsTrue, List, ◌∷◌, Some, None}
+use Rattle.std.specs.Prelude.{◌≡◌, ◌≢◌, ℕ, ◌<◌, ◌≤◌, ◌⊎◌, IsTrue, true, false, List, ◌∷◌, Some, None}
 use Rattle.heap_words.specs.Layouts.{Sizes, IsPass}
+use Rattle.object_headers.specs.declared.change.Kind.{Kind}
+use Rattle.object_headers.specs.Changes.{is_clover}
 use Rattle.space_reclaim.specs.OwnRegions.{IsOwn}
 use Rattle.heap_history.specs.FixedHeaps.{answer}
 use Rattle.heap_history.specs.Histories.{pass_of, is_change}
 use Rattle.heap_history.specs.NewestFirst.{heap_of_history}
 use Rattle.heap_history.specs.declared.call.Call.{Call}
-use Rattle.barriers.specs.States.{Absent, Plain, Kept, Tagged, IsLive}
-use Rattle.barriers.specs.Spaces.{Space, Holds}
+use Rattle.barriers.specs.States.{Absent, Plain, Kept, Tagged, IsHome, IsLive}
+use Rattle.barriers.specs.Spaces.{Space, Holds, is_mark}
+use Rattle.barriers.specs.Stances.{Free, Retired}
 use Rattle.barriers.specs.Rows.{region_of}
 use Rattle.barriers.specs.Says.{Notices}
 use Rattle.barriers.specs.Cycles.{Cycle, Side}
@@ -18,6 +21,7 @@ use Rattle.space_reclaim.specs.declared.move_job.MoveJob.{MoveJob}
 use Rattle.barriers.specs.Moves.{Carried, job_of}
 use Rattle.barriers.specs.Objects.{IsSide, IsCall, IsMove}
 use Rattle.barriers.specs.Kits.{Kit}
+use Rattle.lawful_records.specs.Searches.{IsBegun}
 
 -- the second history is the first with a change of this pass, which fits the heap before it
 pub record HasChange (pass : ℕ) (before after : List Call) : Type 0 where
@@ -44,6 +48,16 @@ pub record SeenBy (P : Protocol) (c : Cycle) (s t : Space) : Type 0 where
   pub call : (x : Side) (k : Known) → IsSide P c s x → IsCall P c s x k → IsCall P c t x k
   pub heads : (at : ℕ) → IsLive (s.state at) → IsSameAt s t at
 
+-- Where a mark is sought, the turn of a pass that has it leaves the word of each field of a home, or makes it another word than the mark.
+abbrev pub KeepsUnmarked : Kind → Cycle → Side → Space → Space → Type 0
+KeepsUnmarked kind c side s t = is_clover kind ≡ true → c.phase ≢ Free → (side.acked ≢ Retired → side.own ≡ c.mark) → (a f : ℕ) → IsHome (t.state a) → f < t.len a
+    → (IsHome (s.state a) × (f < s.len a) × (t.field a f ≡ s.field a f)) ⊎ (is_mark c.mark (t.field a f) ≡ false)
+
+-- what it leaves to a search: where objects begin, and fields that are not the mark
+pub record LeavesSearch (kind : Kind) (c : Cycle) (side : Side) (s t : Space) : Type 0 where
+  pub begun : (region at : ℕ) → IsBegun s region at → IsBegun t region at
+  pub unmarked : KeepsUnmarked kind c side s t
+
 -- the region keeps its word, and its objects end where they did
 pub record SameRegion (s t : Space) (region : ℕ) : Type 0 where
   pub word : t.region region ≡ s.region region
@@ -60,11 +74,13 @@ pub record IsSameHead (s t : Space) (at : ℕ) : Type 0 where
 pub data Left (P : Protocol) (l : Sizes) (s t : Space) (at : ℕ) : Type 0 where
   Same : IsSameHead s t at → Left P l s t at
   Untagged : P.Makes Keep → s.state at ≡ Tagged → t.state at ≡ Kept → t.seal at ≡ s.seal at → t.wide at ≡ s.wide at → Left P l s t at
-  Born : s.state at ≡ Absent → t.state at ≡ Plain → t.seal at ≡ None → l.pool ≤ region_of l at → Left P l s t at
+  Born : s.state at ≡ Absent → t.state at ≡ Plain → t.seal at ≡ None → t.wide at ≡ 0 → l.pool ≤ region_of l at → Left P l s t at
 
--- And what it leaves to the collector: at each address; of the regions of the pool; and of a move, where no object begins at the copy's place.
+-- And what it leaves to the collector: at each address; of the copies' addresses in wide objects, all; of the regions of the pool; and of a
+-- move, where no object begins at the copy's place.
 pub record Leaves (P : Protocol) (l : Sizes) (c : Cycle) (s t : Space) : Type 0 where
   pub left : (at : ℕ) → Left P l s t at
+  pub address : (at : ℕ) → t.address at ≡ s.address at
   pub pool : (region : ℕ) → region < l.pool → SameRegion s t region
   pub moves : (m : Carried) (j : MoveJob) → job_of m ≡ Some j → (s.state j.to ≡ Absent → t.state j.to ≡ Absent) → IsMove P c s m j → IsMove P c t m j
 

@@ -1,17 +1,18 @@
 -- What a cycle moves, until cycles are planned; and which step of a mover seals its object.
 use Rattle.std.specs.Prelude.{ℕ, ◌==◌, ◌&&◌, Bool, true, false, nat_le, if◌then◌else◌, Option, Some, None}
-use Rattle.heap_words.specs.Layouts.{Sizes, first_word}
+use Rattle.heap_words.specs.Layouts.{Sizes, first_word, wide_at}
 use Rattle.call_steps.specs.declared.step.Step.{Step}
 use Rattle.call_steps.specs.declared.step.Step.TheVariants.{Exchange}
 use Rattle.object_headers.specs.declared.change.Kind.{Kind}
+use Rattle.object_headers.specs.declared.change.Kind.TheVariants as kinds
 use Rattle.object_headers.specs.declared.header.Colour.TheVariants.{Even}
 use Rattle.object_headers.specs.declared.header.Header.{Header}
 use Rattle.object_headers.specs.declared.header.State.{State}
 use Rattle.object_headers.specs.declared.header.State.TheVariants as states
-use Rattle.object_headers.specs.Changes.{is_chicken}
+use Rattle.object_headers.specs.Changes.{does_move}
 use Rattle.object_headers.specs.Headers.{word_of_header, header_at}
 use Rattle.space_reclaim.specs.declared.move_job.MoveJob.{MoveJob}
-use Rattle.lawful_records.specs.declared.job.TheConstants.{EMPTIED, FILLED}
+use Rattle.lawful_records.specs.declared.job.TheConstants.{EMPTIED, FILLED, WIDE_WORDS}
 
 -- ---- the job
 
@@ -19,13 +20,31 @@ use Rattle.lawful_records.specs.declared.job.TheConstants.{EMPTIED, FILLED}
 abbrev pub common : Header
 common = record { state = states.Plain; colour = Even; len = 8; birth = 1; target = 0 }
 
--- it goes from the first word of the one region to the first word of the other
-abbrev pub first_job : Sizes → MoveJob
-first_job l = record { birth = 1; from = first_word l EMPTIED; to = first_word l FILLED; wide = 0; len = 8; header = word_of_header common }
+-- its wide object is the first of the wide area, where objects are copied through wide objects; elsewhere it has none
+abbrev pub wide_for : Kind → Sizes → ℕ
+wide_for kinds.Stopless l = wide_at l
+wide_for kind l = 0
 
--- The job of a cycle, until there is a plan: in the first cycle that object, where the pool has a second region. Only Chicken moves it yet.
+-- and the wide area has room for it
+abbrev pub has_wide_room : Kind → Sizes → Bool
+has_wide_room kinds.Stopless l = nat_le WIDE_WORDS l.wide
+has_wide_room kind l = true
+
+-- it goes from the first word of the one region to the first word of the other
+abbrev pub first_job : Kind → Sizes → MoveJob
+first_job kind l = record {
+  birth = 1;
+  from = first_word l EMPTIED;
+  to = first_word l FILLED;
+  wide = wide_for kind l;
+  len = 8;
+  header = word_of_header common;
+}
+
+-- The job of a cycle, until there is a plan: in the first cycle that object, where the pool has a second region and the wide area room.
 abbrev pub job_in : Kind → Sizes → ℕ → Option MoveJob
-job_in kind l cycle = if is_chicken kind && nat_le 2 l.pool && cycle == 1 then Some (first_job l) else None
+job_in kind l cycle =
+    if does_move kind && nat_le 2 l.pool && cycle == 1 && has_wide_room kind l then Some (first_job kind l) else None
 
 -- ---- headers
 

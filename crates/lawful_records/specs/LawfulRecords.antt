@@ -11,7 +11,7 @@ use Rattle.heap_history.specs.Histories.{IsHistory, Follows, pass_of}
 use Rattle.heap_history.specs.NewestFirst.{len_at, Before}
 use Rattle.heap_history.specs.declared.call.Call.{Call}
 use Rattle.heap_history.specs.declared.call.Ended.{Ended}
-use Rattle.handshakes.specs.Handshakes.{Announced, Answers}
+use Rattle.handshakes.specs.Handshakes.{Announced, Answers, AnswersWith}
 use Rattle.handshakes.specs.PhaseWords.{retired_word, phase_word_of}
 use Rattle.handshakes.specs.Polling.{Polled, IsPolling, held_in}
 use Rattle.handshakes.specs.Retiring.{IsRetiring, stored_by}
@@ -21,10 +21,11 @@ use Rattle.handshakes.specs.declared.retire.RetireMachine.{RetireMachine}
 use Rattle.handshakes.specs.declared.retire.RetireMachine.TheVariants as retire
 use Rattle.barriers.specs.declared.pass.PassMachine.{PassMachine}
 use Rattle.barriers.specs.declared.pass.PassMachine.TheVariants as machine
-use Rattle.barriers.specs.States.{IsLive, On}
+use Rattle.barriers.specs.States.{Absent, IsLive, On}
 use Rattle.barriers.specs.Spaces.{Space, Holds}
 use Rattle.barriers.specs.Says.{Notices, Says}
 use Rattle.barriers.specs.Rows.{Rows}
+use Rattle.barriers.specs.MoveWords.{IsSpare}
 use Rattle.barriers.specs.Values.{value_of}
 use Rattle.barriers.specs.Cycles.{Cycle, IsMoving, Handshaken}
 use Rattle.barriers.specs.Knowns.{Task, Reads, Writes, Exchanges, task_of}
@@ -32,11 +33,12 @@ use Rattle.barriers.specs.Objects.{AreObjects, IsSide, IsCall, HasLens}
 use Rattle.barriers.specs.Kits.{Kit}
 use Rattle.lawful_records.specs.declared.collector.CollectorMachine.{CollectorMachine}
 use Rattle.lawful_records.specs.Handshakes.{IsCollector}
-use Rattle.lawful_records.specs.Collectors.{AreEarlier}
+use Rattle.lawful_records.specs.Collectors.{drawn_of, AreEarlier}
 use Rattle.lawful_records.specs.Cycling.{announced_by, cycle_of}
-use Rattle.lawful_records.specs.JobStands.{stand_of, StandsAt}
+use Rattle.lawful_records.specs.JobStands.{stand_of, IsMovedBy, StandsAt}
+use Rattle.lawful_records.specs.Searches.{SearchStands}
 use Rattle.lawful_records.specs.Making.{IsRoom, IsMaking, has_room}
-use Rattle.lawful_records.specs.Records.{view_by, registers_by, room_by, made_by as made_count, number_of, acked_of, side_of, seen_of}
+use Rattle.lawful_records.specs.Records.{registers_by, room_by, made_by as made_count, number_of, acked_of, mark_of, side_of, seen_of}
 use Rattle.lawful_records.specs.Beginnings.{call_ended}
 use Rattle.lawful_records.specs.Meetings.{HasMet}
 use Rattle.lawful_records.specs.declared.records.PassKnown.{PassKnown}
@@ -128,9 +130,9 @@ module _ {R W E M : Type 0} (kit : Kit R W E M) where
   pub record IsAnswering (a : Announced) (n : Notices) (p : PassKnown R W E) : Type 0 where
     pub acked : n.ack (number_of p) ≡ acked_of p
     pub answers : Answers a (number_of p) (acked_of p)
+    pub marked : AnswersWith a (number_of p) (acked_of p) (mark_of p)
     pub phase : IsSome (phase_word_of (acked_of p))
     pub retired : IsAcked p.pass.machine (acked_of p)
-    pub unmarked : (let view = view_by p.pass.machine p.pass.view in view.mark) ≡ 0
 
   -- what it has told: its changes are those of the history with its number, and its ended calls are legal in it
   pub record HasTold (h : List Call) (p : PassKnown R W E) : Type 0 where
@@ -162,6 +164,7 @@ module _ {R W E M : Type 0} (kit : Kit R W E M) where
     pub few : cycles ≤ 64
     pub collects : IsCollector l kit.kind cycles k
     pub job : StandsAt kit l (cycle_of k) s (stand_of k)
+    pub search : SearchStands l (cycle_of k) s k
     pub awaited : AreEarlier (length s.history) q.awaited
     pub sealed : AreSealed s q.sealed
     -- until cycles are planned only the common object is ever sealed
@@ -194,8 +197,9 @@ module _ {R W E M : Type 0} (kit : Kit R W E M) where
     pub fits : IsHistory opening (reverse h)
     pub owners : All (λ c. IsPass l (pass_of c)) h
 
-  -- The words say the space and what is announced and acknowledged; the objects of each region follow each other; the objects are as the copier
-  -- and the history have them, and none is on its way by a mark; and each party stands where it is.
+  -- The words say the space, what is announced and acknowledged, and the mark, and those of the wide area that are of no wide object are 0; the
+  -- objects of each region follow each other, and where none begins there is no wide object of one; the objects are as the copier and the
+  -- history have them, and only the one that is moved is on its way by a mark; and each party stands where it is.
   pub record LawfulRecords (l : Sizes) (words : List ℕ) (rs : List (Party R W E M)) : Type 0 where
     pub layout : IsLayout l
     pub width : length words ≡ words_of l
@@ -205,10 +209,12 @@ module _ {R W E M : Type 0} (kit : Kit R W E M) where
     pub collector : CollectorMachine M
     pub says : Says l (reading words) space notices
     pub announced : notices.phase ≡ (let a = announced_by collector in a.word)
-    pub unmarked : notices.mark ≡ 0
+    pub drawn : notices.mark ≡ drawn_of collector
+    pub spare : IsSpare l (reading words) space
     pub rows : Rows l space.state space.len space.ends space.region
+    pub bare : (a : ℕ) → space.state a ≡ Absent → space.wide a ≡ 0
     pub objects : AreObjects kit.protocol (cycle_of collector) space
     pub lens : HasLens space
-    pub resting : (a : ℕ) → IsMoving (space.state a) → ⊥
+    pub resting : (a : ℕ) → IsMoving (space.state a) → IsMovedBy collector a
     pub history : IsHistoryOf l space.history rs
     pub each : All (IsParty l collector space notices) rs

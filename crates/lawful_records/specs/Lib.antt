@@ -13,4 +13,5 @@ pub mod Opening
 pub mod PassTurns
 pub mod Records
 pub mod Running
+pub mod Searches
 pub mod Turns

@@ -45,6 +45,6 @@ opening_passes l pass zero = []
 opening_passes l pass (suc count) = party.Pass (opening_pass l pass) ∷ opening_passes l (pass + 1) count
 
 module _ {R W E M : Type 0} (kit : Kit R W E M) where
-  -- the passes of the layout, and a collector that plays so many cycles
-  abbrev pub opening_parties : Sizes → ℕ → List (Party R W E M)
-  opening_parties l cycles = opening_passes l 1 l.passes ++ party.Collector (record { machine = collector_of kit l cycles; awaited = none_awaited; sealed = [] }) ∷ []
+  -- the passes of the layout, and a collector that plays so many cycles, whose marks a salt draws
+  abbrev pub opening_parties : Sizes → ℕ → ℕ → List (Party R W E M)
+  opening_parties l cycles salt = opening_passes l 1 l.passes ++ party.Collector (record { machine = collector_of kit l cycles salt; awaited = none_awaited; sealed = [] }) ∷ []

@@ -1,32 +1,48 @@
 -- A turn of a pass: what holds where it takes its step, and what the step makes of that.
-use Rattle.std.specs.Prelude.{◌≡◌, ◌≢◌, ℕ, true, List, length, slice_index, IsSome, Option, Some, None}
+use Rattle.std.specs.Prelude.{◌≡◌, ◌≢◌, ℕ, ◌<◌, Bool, true, false, List, length, slice_index, IsSome, Option, Some, None}
 use Rattle.call_steps.specs.Steps.{place_of, applied}
 use Rattle.call_steps.specs.StepLaws.{reading}
 use Rattle.heap_words.specs.Layouts.{Sizes, IsLayout, IsPass, words_of}
 use Rattle.heap_history.specs.declared.call.Call.{Call}
-use Rattle.handshakes.specs.Handshakes.{Announced, Answers}
-use Rattle.handshakes.specs.PhaseWords.{retired_word, phase_word_of}
-use Rattle.barriers.specs.Spaces.{Space}
+use Rattle.handshakes.specs.Handshakes.{Announced, AnswersWith}
+use Rattle.handshakes.specs.declared.pass_view.PassView.{PassView}
+use Rattle.handshakes.specs.PhaseWords.{retired_word, phase_word_of, phase_word_at}
+use Rattle.handshakes.specs.Polling.{mark_by}
+use Rattle.barriers.specs.Spaces.{Space, is_mark}
+use Rattle.heap_words.specs.declared.field_word.FieldWord.TheVariants.{Num}
 use Rattle.barriers.specs.Says.{Notices, Says}
 use Rattle.barriers.specs.Rows.{Rows}
+use Rattle.barriers.specs.States.{Absent}
+use Rattle.barriers.specs.MoveWords.{IsSpare}
 use Rattle.barriers.specs.Stances.{stance_at}
 use Rattle.barriers.specs.Cycles.{Cycle, Side, Handshaken}
 use Rattle.barriers.specs.Objects.{AreObjects, HasLens}
 use Rattle.barriers.specs.Knowns.{Known, spot_of}
-use Rattle.barriers.specs.Kits.{Kit, Stepping}
-use Rattle.lawful_records.specs.Frames.{Leaves, Beside}
+use Rattle.barriers.specs.Kits.{Kit, Stepping, IsFromSearch, own_of, cycle_at}
+use Rattle.lawful_records.specs.Frames.{Leaves, LeavesSearch, Beside}
 use Rattle.lawful_records.specs.LawfulRecords.{IsPassRecord}
-use Rattle.lawful_records.specs.Records.{number_of, known_of}
+use Rattle.lawful_records.specs.Meetings.{FitsHand}
+use Rattle.lawful_records.specs.Records.{number_of, side_of, known_of}
 use Rattle.lawful_records.specs.Turns.{pass_asks, pass_turned, change_by, front_by, with_change, LooksOn}
 use Rattle.barriers.specs.declared.pass.PassMachine.{PassMachine}
 use Rattle.lawful_records.specs.declared.records.PassKnown.{PassKnown}
 
--- What a collector's announcement is to a pass: no pass has ended by it, it is the cycle's phase word, and who has answered fits the cycle.
-pub record IsAnnounced (l : Sizes) (a : Announced) (c : Cycle) : Type 0 where
+-- the side of a pass that minds its mark or does not
+abbrev pub side_with : Bool → PassView → List Call → Side
+side_with minds view seen = record { pass = view.pass; acked = stance_at view.acked; own = own_of minds view; seen = seen }
+
+-- What a collector's announcement is to a pass, where this is the mark word: no pass has ended by it, it is the cycle's phase word, and who has
+-- answered, with a mark or without, fits the cycle. A pass that has not answered gets the mark that goes with it; the mark is not 0; and a pass
+-- with a mark finds a phase word of its own cycle.
+pub record IsAnnounced (minds : Bool) (l : Sizes) (a : Announced) (c : Cycle) (mark : ℕ) : Type 0 where
   pub stance : stance_at a.word ≡ c.phase
   pub runs : a.word ≢ retired_word
   pub phase : IsSome (phase_word_of a.word)
-  pub shaken : (side : Side) (word : ℕ) → IsPass l side.pass → Answers a side.pass word → word ≢ retired_word → side.acked ≡ stance_at word → side.own ≡ None → Handshaken c side
+  pub shaken : (view : PassView) (seen : List Call) → IsPass l view.pass → AnswersWith a view.pass view.acked view.mark → view.acked ≢ retired_word → Handshaken c (side_with minds view seen)
+  pub answered : (pass : ℕ) → IsPass l pass → a.passed < pass → (let w = phase_word_at a.word in mark_by w.phase w.round a.mark_before mark) ≡ a.mark
+  pub zero : is_mark c.mark (Num 0) ≡ false
+  pub number : (view : PassView) → IsPass l view.pass → AnswersWith a view.pass view.acked view.mark → FitsHand (own_of minds view)
+  pub current : (view : PassView) → IsPass l view.pass → AnswersWith a view.pass view.acked view.mark → view.acked ≢ retired_word → view.mark ≢ 0 → (cycle_at a.word ≡ cycle_at view.acked) × IsFromSearch (stance_at a.word)
 
 -- the pass in this machine
 abbrev pub in_machine : {R W E : Type 0} → PassKnown R W E → PassMachine R W E → PassKnown R W E
@@ -43,10 +59,11 @@ module _ {R W E M : Type 0} (kit : Kit R W E M) (by : Stepping R W E M) where
     pub layout : IsLayout l
     pub width : length words ≡ words_of l
     pub says : Says l (reading words) s n
-    pub announcement : IsAnnounced l a c
+    pub announcement : IsAnnounced kit.minds l a c n.mark
     pub announced : n.phase ≡ a.word
-    pub unmarked : n.mark ≡ 0
+    pub spare : IsSpare l (reading words) s
     pub rows : Rows l s.state s.len s.ends s.region
+    pub bare : (at : ℕ) → s.state at ≡ Absent → s.wide at ≡ 0
     pub objects : AreObjects kit.protocol c s
     pub lens : HasLens s
     pub late : c.late ≡ true
@@ -71,11 +88,13 @@ module _ {R W E M : Type 0} (kit : Kit R W E M) (by : Stepping R W E M) where
   -- after the step the words say this space, and all of that holds of it; to others the step is as one of this pass's
   pub record PassTurn (l : Sizes) (a : Announced) (c : Cycle) (s : Space) (n : Notices) (p : PassKnown R W E) (words : List ℕ) (t : Space) (o : Notices) : Type 0 where
     pub says : Says l (reading (applied (pass_asks kit by p.pass.machine) words)) t o
+    pub spare : IsSpare l (reading (applied (pass_asks kit by p.pass.machine) words)) t
     pub rows : Rows l t.state t.len t.ends t.region
     pub objects : AreObjects kit.protocol c t
     pub lens : HasLens t
     pub beside : Beside kit l c (number_of p) s t n o
     pub leaves : Leaves kit.protocol l c s t
+    pub search : LeavesSearch kit.kind c (side_of kit p) s t
     pub history : t.history ≡ with_change (change_in p words) s.history
     pub number : number_of (pass_after s p words) ≡ number_of p
     pub looks : LooksOn (front_by kit by p.pass.machine (found_by p words)) (seal_for s p.pass.machine) s.history p.seen

@@ -58,6 +58,10 @@ number_of p = let view = view_by p.pass.machine p.pass.view in view.pass
 abbrev pub acked_of : {R W E : Type 0} → PassKnown R W E → ℕ
 acked_of p = let view = view_by p.pass.machine p.pass.view in view.acked
 
+-- its mark, 0 for none
+abbrev pub mark_of : {R W E : Type 0} → PassKnown R W E → ℕ
+mark_of p = let view = view_by p.pass.machine p.pass.view in view.mark
+
 module _ {R W E M : Type 0} (kit : Kit R W E M) where
   -- its side of the cycle
   abbrev pub side_of : PassKnown R W E → Side

@@ -1,46 +1,29 @@
 //! The collector plays its cycles: it announces one phase after another, awaits after each announcement the answer
-//! of every pass, and moves the job of a cycle once all have acknowledged Copy.
+//! of every pass, seeks a mark where the copier needs one, and moves the job of a cycle once all have acknowledged the
+//! last Copy word.
 
 ghost use Rattle.std.specs.Prelude.{◌≡◌, ◌≢◌, ◌≤◌, ◌<◌};
 ghost use Rattle.call_steps.specs.declared.step.Step.TheVariants.{Store, Ended as StepEnded};
 ghost use Rattle.heap_words.specs.Layouts.{IsPass, region_at as region_at_in};
 ghost use Rattle.space_reclaim.specs.RegionWords.{IsRegionWord, word_of_region};
-ghost use Rattle.handshakes.specs.PhaseWords.{retired_word, word_of_phase};
-ghost use Rattle.lawful_records.specs.Collectors.{word_of, said_in, phase_of as phase_in, round_of, planned as planned_in, look as look_at, announce as announce_in, to_copy as to_copy_by, to_fix as to_fix_by, behind_by, awaited as awaited_by, looked as looked_by, moved_on as moved_on_by, asks_of as asks_by, fed_of as fed_by, seals_of, move_ended as move_ended_by, collector_of, with_await as with_await_of, awaits_behind};
+ghost use Rattle.lawful_records.specs.Collectors.{planned as planned_in, look as look_at, seek_at, sought_on, to_copy as to_copy_by, move_at, to_fix as to_fix_by, targeted as targeted_by, behind_by, awaited as awaited_by, looked as looked_by, moved_on as moved_on_by, asks_of as asks_by, fed_of as fed_by, seals_of, move_ended as move_ended_by, seek_ended, collector_of};
 
-use crate::job::{EMPTIED, FILLED, does_seal, first_job, tagged_word};
+use crate::job::{EMPTIED, FILLED, does_seal, tagged_word};
+use crate::stage::{Announcement, Marks, SEARCHES, Stage, seeks_mark};
 use barriers::{Copier, MoveEnd};
 use call_steps::{Machine, Step};
-use handshakes::{AwaitEnd, AwaitMachine, Phase, PhaseWord};
+use handshakes::{AwaitEnd, AwaitMachine};
 use heap_words::Layout;
-use object_headers::Kind;
+use mark_search::{Candidates, SeekEnd, SeekMarkMachine};
 use space_reclaim::{MoveJob, RegionWord};
 
-/// What the collector announces in a cycle, in this order.
-#[derive(Clone, Copy, Debug, PartialEq, Eq)]
-pub enum Announcement {
-    Mark,
-    Confirm,
-    Copy,
-    Fix,
-    Free,
-}
-
-/// An announcement of a cycle, where the cycles 1 to `cycles` are played with a copier of this kind.
-#[derive(Clone, Copy, Debug, PartialEq, Eq)]
-pub struct Stage {
-    pub layout: Layout,
-    pub kind: Kind,
-    pub cycles: u32,
-    /// The number of the cycle; 0 before the first one.
-    pub cycle: u32,
-    pub announcement: Announcement,
-}
-
 /// Stores the phase word of each announcement, and after each loads the acknowledgement of one pass after another,
-/// in rising number, again and again until it is the announced word or that of Retired. Before it announces Copy it
-/// tags the object of the cycle's job, and before it announces Fix it moves that object, where the cycle has a job.
-/// Neither an await nor a move has a bound.
+/// in rising number, again and again until it is the announced word or that of Retired. Where the copier puts marks
+/// in place of values, it seeks one after Confirm: it stores a candidate in the mark word, announces its Search, and
+/// loads each field of each object; a field that holds the candidate ends the search, and the next one is drawn, of
+/// which there are eight at most. Where objects are tagged it tags the object of the cycle's job before it announces
+/// Copy. It moves that object before it announces Fix, where the cycle has a job. Neither an await nor a move has a
+/// bound.
 #[derive(Clone, Copy, Debug, PartialEq, Eq)]
 pub enum CollectorMachine<M> {
     /// Announces this stage.
@@ -51,7 +34,14 @@ pub enum CollectorMachine<M> {
         pass: u32,
         machine: AwaitMachine,
     },
-    /// Stores Source in the word of the region that is emptied. Next it announces this stage, as in the states below.
+    /// Stores the candidate drawn last in the mark word. Next it announces this stage, as in the states below.
+    Draw(Stage),
+    /// Has awaited this stage, and seeks a field that holds the candidate.
+    Seek {
+        stage: Stage,
+        machine: SeekMarkMachine,
+    },
+    /// Stores Source in the word of the region that is emptied.
     Source {
         stage: Stage,
         job: MoveJob,
@@ -76,138 +66,7 @@ pub enum CollectorMachine<M> {
     Done(Stage),
 }
 
-/// How many changes of the history there were when the await of each announcement of the running cycle ended; 0
-/// before it has.
-#[derive(Clone, Copy, Debug, PartialEq, Eq)]
-pub struct Awaited {
-    pub mark: u32,
-    pub confirm: u32,
-    pub copy: u32,
-    pub fix: u32,
-    pub free: u32,
-}
-
-impl Awaited {
-    /// No await has ended.
-    pub const NONE: Awaited = Awaited {
-        mark: 0,
-        confirm: 0,
-        copy: 0,
-        fix: 0,
-        free: 0,
-    };
-
-    /// The await of this announcement has ended where there were so many changes.
-    fn with_await(self, announcement: Announcement, changes: u32) -> Awaited
-        ensures { result ≡ with_await_of announcement changes self }
-    {
-        match announcement {
-            Announcement::Mark => Awaited {
-                mark: changes,
-                ..self
-            },
-            Announcement::Confirm => Awaited {
-                confirm: changes,
-                ..self
-            },
-            Announcement::Copy => Awaited {
-                copy: changes,
-                ..self
-            },
-            Announcement::Fix => Awaited {
-                fix: changes,
-                ..self
-            },
-            Announcement::Free => Awaited {
-                free: changes,
-                ..self
-            },
-        }
-    }
-
-    /// After a step of the collector from one machine to another, where there were so many changes: an announcement
-    /// of Mark begins a cycle, and an await may have ended.
-    pub fn behind<M>(
-        self,
-        before: &CollectorMachine<M>,
-        after: &CollectorMachine<M>,
-        changes: u32,
-    ) -> Awaited
-        ensures { result ≡ awaits_behind before.now after.now changes self }
-    {
-        match (before, after) {
-            (CollectorMachine::Announce(stage), _) => match stage.announcement {
-                Announcement::Mark => Awaited::NONE,
-                _ => self,
-            },
-            (CollectorMachine::Await { .. }, CollectorMachine::Await { .. }) => self,
-            (CollectorMachine::Await { stage, .. }, _) => {
-                self.with_await(stage.announcement, changes)
-            }
-            _ => self,
-        }
-    }
-}
-
-impl Announcement {
-    fn phase(self) -> Phase
-        ensures { result ≡ phase_in self }
-    {
-        match self {
-            Announcement::Mark => Phase::Mark,
-            Announcement::Confirm => Phase::Confirm,
-            Announcement::Copy => Phase::Copy,
-            Announcement::Fix => Phase::Fix,
-            Announcement::Free => Phase::Free,
-        }
-    }
-
-    /// The first round of a phase, which is 1 at Confirm.
-    fn round(self) -> u32
-        ensures value { result ≡ round_of self }
-        ensures small { result ≤ 1 }
-    {
-        match self {
-            Announcement::Confirm => 1,
-            Announcement::Mark | Announcement::Copy | Announcement::Fix | Announcement::Free => 0,
-        }
-    }
-
-    /// Its phase word in a cycle.
-    #[tactic(auto, using(crate::proofs::CollectorLaws::fits, crate::proofs::CollectorLaws::runs))]
-    fn word(self, cycle: u32) -> u64
-        ensures word { result ≡ word_of_phase (said_in self cycle) }
-        ensures runs { result ≢ retired_word }
-    {
-        let said = PhaseWord {
-            phase: self.phase(),
-            cycle,
-            round: self.round(),
-        };
-        said.pack()
-    }
-}
-
 impl Stage {
-    /// The phase word that is announced.
-    fn word(&self) -> u64
-        ensures word { result ≡ word_of self.now }
-        ensures runs { result ≢ retired_word }
-    {
-        self.announcement.word(self.cycle)
-    }
-
-    /// The job of its cycle, if it has one.
-    pub fn job(&self) -> Option<MoveJob>
-        ensures { result ≡ planned_in self.now }
-    {
-        if self.kind == Kind::Chicken && self.layout.pool() >= 2 && self.cycle == 1 {
-            Some(first_job(&self.layout))
-        } else {
-            None
-        }
-    }
-
     /// The store of what one of the first two regions is used for.
     #[tactic(auto, using(crate::proofs::JobLaws::region_there))]
     fn use_region(&self, region: u32, used: RegionWord) -> Step
@@ -242,20 +101,14 @@ impl Stage {
         self.look(1)
     }
 
-    /// Another announcement of this cycle.
-    fn at(&self, announcement: Announcement) -> Stage
-        ensures { result ≡ record self.now { announcement = announcement } }
-    {
-        Stage {
-            announcement,
-            ..*self
-        }
-    }
-
-    /// What comes before Copy is announced: the tag of the job's object, if the cycle has a job.
+    /// What comes before Copy is announced: the search for a mark; or the tag of the job's object, if the cycle has a
+    /// job.
     fn to_copy<M>(&self) -> CollectorMachine<M>
         ensures { result ≡ to_copy_by (planned_in self.now) self.now }
     {
+        if seeks_mark(self.kind) {
+            return CollectorMachine::Draw(self.search(1));
+        }
         let stage = self.at(Announcement::Copy);
         match self.job() {
             None => CollectorMachine::Announce(stage),
@@ -263,18 +116,72 @@ impl Stage {
         }
     }
 
-    /// What comes before Fix is announced: the move of that object.
+    /// What comes when all passes have the candidate as their mark.
+    fn to_seek<M>(&self) -> CollectorMachine<M>
+        ensures { result ≡ seek_at self.now }
+    {
+        CollectorMachine::Seek {
+            stage: *self,
+            machine: SeekMarkMachine::new(&self.layout, self.mark()),
+        }
+    }
+
+    /// What comes after a step of the search, which has ended so: the last Copy word, where no field held the
+    /// candidate; or the next one. After the eighth find nothing is moved.
+    fn sought<M>(&self, machine: SeekMarkMachine) -> CollectorMachine<M>
+        ensures { result ≡ sought_on self.now machine }
+    {
+        match machine.end() {
+            None => CollectorMachine::Seek {
+                stage: *self,
+                machine,
+            },
+            Some(SeekEnd::Clear) => CollectorMachine::Announce(Stage {
+                announcement: Announcement::Copy,
+                marks: Marks {
+                    clear: true,
+                    ..self.marks
+                },
+                ..*self
+            }),
+            Some(SeekEnd::MarkFound(_)) if self.marks.round < SEARCHES => {
+                CollectorMachine::Draw(self.search(self.marks.round + 1))
+            }
+            Some(SeekEnd::MarkFound(_)) => CollectorMachine::Announce(self.at(Announcement::Fix)),
+        }
+    }
+
+    /// The move of a job's object, before this stage is announced.
+    fn moving<P: Copier>(&self, job: MoveJob) -> CollectorMachine<P::Move>
+        ensures { result ≡ move_at P.kit self.now job }
+    {
+        CollectorMachine::Move {
+            stage: *self,
+            job,
+            machine: P::move_one(&self.layout, job, self.mark()),
+        }
+    }
+
+    /// What comes before Fix is announced: the move of the job's object.
     fn to_fix<P: Copier>(&self) -> CollectorMachine<P::Move>
         ensures { result ≡ to_fix_by P.kit (planned_in self.now) self.now }
     {
         let stage = self.at(Announcement::Fix);
         match self.job() {
             None => CollectorMachine::Announce(stage),
-            Some(job) => CollectorMachine::Move {
-                stage,
-                job,
-                machine: P::move_one(&self.layout, job, 0),
-            },
+            Some(job) if seeks_mark(self.kind) => CollectorMachine::Source { stage, job },
+            Some(job) => stage.moving::<P>(job),
+        }
+    }
+
+    /// What comes when the regions of a job have their words: the tag of its object; or, without tags, its move.
+    fn targeted<P: Copier>(&self, job: MoveJob) -> CollectorMachine<P::Move>
+        ensures { result ≡ targeted_by P.kit self.now job }
+    {
+        if seeks_mark(self.kind) {
+            self.moving::<P>(job)
+        } else {
+            CollectorMachine::Tag { stage: *self, job }
         }
     }
 
@@ -285,6 +192,7 @@ impl Stage {
         match self.announcement {
             Announcement::Mark => CollectorMachine::Announce(self.at(Announcement::Confirm)),
             Announcement::Confirm => self.to_copy(),
+            Announcement::Search => self.to_seek(),
             Announcement::Copy => self.to_fix::<P>(),
             Announcement::Fix => CollectorMachine::Announce(self.at(Announcement::Free)),
             Announcement::Free if self.cycle < self.cycles => {
@@ -343,10 +251,11 @@ impl Stage {
         }
     }
 
-    /// The collector of a copier before the first of so many cycles; with none it is done.
-    pub fn first<P: Copier>(layout: &Layout, cycles: u32) -> CollectorMachine<P::Move>
+    /// The collector of a copier before the first of so many cycles, whose marks this salt draws; with none it is
+    /// done.
+    pub fn first<P: Copier>(layout: &Layout, cycles: u32, salt: u64) -> CollectorMachine<P::Move>
         requires { cycles ≤ 64 }
-        ensures { result ≡ collector_of P.kit layout.now cycles }
+        ensures { result ≡ collector_of P.kit layout.now cycles salt }
     {
         let stage = Stage {
             layout: *layout,
@@ -354,6 +263,11 @@ impl Stage {
             cycles,
             cycle: 0,
             announcement: Announcement::Free,
+            marks: Marks {
+                candidates: Candidates::new(salt),
+                round: 0,
+                clear: false,
+            },
         };
         stage.behind::<P>()
     }
@@ -370,6 +284,11 @@ impl<M: Machine> CollectorMachine<M> {
                 put: stage.word(),
             },
             CollectorMachine::Await { machine, .. } => machine.ask(),
+            CollectorMachine::Draw(stage) => Step::Store {
+                at: stage.layout.mark_at(),
+                put: stage.mark(),
+            },
+            CollectorMachine::Seek { machine, .. } => machine.ask(),
             CollectorMachine::Source { stage, .. } => stage.use_region(EMPTIED, RegionWord::Source),
             CollectorMachine::Target { stage, .. } => stage.use_region(FILLED, RegionWord::Target),
             CollectorMachine::Tag { job, .. } => Step::Exchange {
@@ -411,8 +330,14 @@ where
             fed.feed(found);
             stage.looked::<P>(pass, machine, fed.end())
         }
+        CollectorMachine::Draw(stage) => CollectorMachine::Announce(stage),
+        CollectorMachine::Seek { stage, machine } => {
+            let mut fed = machine;
+            fed.feed(found);
+            stage.sought(fed)
+        }
         CollectorMachine::Source { stage, job } => CollectorMachine::Target { stage, job },
-        CollectorMachine::Target { stage, job } => CollectorMachine::Tag { stage, job },
+        CollectorMachine::Target { stage, job } => stage.targeted::<P>(job),
         CollectorMachine::Tag { stage, .. } => CollectorMachine::Announce(stage),
         CollectorMachine::Move {
             stage,
@@ -470,4 +395,17 @@ where
     let mut fed = machine;
     fed.feed(found);
     Some((job, P::move_end(&fed)?))
+}
+
+/// What the search that it is in ends with, if it ends by its next step, which finds this word.
+pub fn seek_end_of<M: Machine>(collector: &CollectorMachine<M>, found: u64) -> Option<SeekEnd>
+    requires { asks_by M.asks collector.now ≢ StepEnded }
+    ensures { result ≡ seek_ended collector.now found }
+{
+    let CollectorMachine::Seek { machine, .. } = collector else {
+        return None;
+    };
+    let mut fed = *machine;
+    fed.feed(found);
+    fed.end()
 }

@@ -1,6 +1,7 @@
 //! What is known of each party. No value of a record is made: what runs keeps counts, and the records are read off it.
 
-use crate::collector::{Awaited, CollectorMachine};
+use crate::awaited::Awaited;
+use crate::collector::CollectorMachine;
 use barriers::PassRecord;
 use heap_history::{Call, Ended};
 use std::collections::LinkedList;

@@ -6,11 +6,13 @@ use heap_words::Layout;
 use lawful_records::Party;
 use std::marker::PhantomData;
 
-/// What is fixed when the words are made: the layout, and how many cycles the collector plays.
+/// What is fixed when the words are made: the layout, how many cycles the collector plays, and the salt that draws
+/// its marks.
 #[derive(Clone, Copy, Debug, PartialEq, Eq)]
 pub struct Opening {
     pub layout: Layout,
     pub cycles: u32,
+    pub salt: u64,
 }
 
 /// The records of passes that use this copier, and of the collector.
@@ -24,7 +26,7 @@ impl<P: Copier> Lawful<Party<P::Read, P::Write, P::Exchange, P::Move>, Opening> 
 
     ghost lawful = { λ k ws rs. LawfulRecords P.kit k.layout ws rs };
 
-    ghost opening = { λ k. opening_parties P.kit k.layout k.cycles };
+    ghost opening = { λ k. opening_parties P.kit k.layout k.cycles k.salt };
 }
 
 impl<P: Copier> Law<Party<P::Read, P::Write, P::Exchange, P::Move>, Opening> for Records<P> {

@@ -32,7 +32,7 @@ module _ {R W E M : Type 0} (kit : Kit R W E M) (l : Sizes) (a : Announced) (c :
     idle_put is has = record {
       number = is.number;
       side = is.side;
-      answering = record { acked = is.answering.acked; answers = is.answering.answers; phase = is.answering.phase; retired = is.answering.retired; unmarked = is.answering.unmarked };
+      answering = record { acked = is.answering.acked; answers = is.answering.answers; phase = is.answering.phase; retired = is.answering.retired; marked = is.answering.marked };
       shaken = is.shaken;
       eight = length-set p.pass.registers register word ∙ is.eight;
       registers = λ i. held_put (IsGood s) p.pass.registers register word i (word_good word has is.registers) (is.registers i);

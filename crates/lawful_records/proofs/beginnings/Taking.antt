@@ -163,7 +163,7 @@ module _ {R W E M : Type 0} (kit : Kit R W E M) (l : Sizes) (a : Announced) (c :
       acked = holds.acked;
       answers = holds.answers;
       phase = holds.phase;
-      unmarked = holds.unmarked;
+      marked = holds.marked;
       shaken = holds.shaken;
       eight = ap length (rested_registers kit m put.registers) ∙ put_eight (taken_in p.pass) register word ∙ holds.eight;
       good = λ i. subst (λ (registers : List FieldWord). IsGood s (held_in registers i)) (sym (rested_registers kit m put.registers)) (put_good (taken_in p.pass) register word i (λ w said. end_good p m w is.machine is.met.call said) (holds.good i));

@@ -1,20 +1,22 @@
 -- What a call under way stands on, and what its step comes to, by what is known of it alone.
-use Rattle.std.proofs.Common.{◌≡◌, ℕ, List, Option, None}
+use Rattle.std.proofs.Common.{◌≡◌, ◌≢◌, ℕ, false, List, Option}
 use Rattle.heap_words.specs.Layouts.{Sizes, IsLayout}
 use Rattle.heap_history.specs.declared.call.Call.{Call}
 use Rattle.handshakes.specs.declared.pass_view.PassView.{PassView}
 use Rattle.barriers.specs.declared.front.Front.{Front}
-use Rattle.barriers.specs.Spaces.{Space}
+use Rattle.barriers.specs.Spaces.{Space, is_mark}
+use Rattle.heap_words.specs.declared.field_word.FieldWord.TheVariants.{Num}
 use Rattle.barriers.specs.Says.{Notices, Says, IsPacked}
 use Rattle.barriers.specs.Rows.{Rows}
 use Rattle.barriers.specs.Stances.{stance_at}
 use Rattle.barriers.specs.Cycles.{Cycle}
+use Rattle.barriers.specs.MoveWords.{IsSpare}
 use Rattle.barriers.specs.Objects.{AreObjects, HasLens, IsSide, IsCall}
 use Rattle.barriers.specs.Knowns.{Known, spot_of, task_of}
-use Rattle.barriers.specs.Kits.{Kit, own_of}
-use Rattle.lawful_records.specs.Frames.{Grows, SeenBy, SameRegion, Leaves}
+use Rattle.barriers.specs.Kits.{Kit, IsFromSearch, own_of, cycle_at}
+use Rattle.lawful_records.specs.Frames.{Grows, SeenBy, SameRegion, Leaves, LeavesSearch}
 use Rattle.lawful_records.specs.LawfulRecords.{IsUnborn}
-use Rattle.lawful_records.specs.Meetings.{HasSpot}
+use Rattle.lawful_records.specs.Meetings.{HasSpot, FitsHand}
 use Rattle.lawful_records.specs.Turns.{change_call, with_change, seen_by, LooksOn}
 use Rattle.lawful_records.proofs.telling.Replies.{EndsSo}
 use Rattle.lawful_records.proofs.turns.Holding.{side_at}
@@ -34,6 +36,7 @@ module _ {R W E M : Type 0} (kit : Kit R W E M) where
   pub record CallStands (l : Sizes) (c : Cycle) (s : Space) (n : Notices) (memory : ℕ → ℕ) (v : PassView) (seen : List Call) (k : Known) : Type 0 where
     pub layout : IsLayout l
     pub says : Says l memory s n
+    pub spare : IsSpare l memory s
     pub phase : stance_at n.phase ≡ c.phase
     pub rows : Rows l s.state s.len s.ends s.region
     pub objects : AreObjects kit.protocol c s
@@ -41,18 +44,23 @@ module _ {R W E M : Type 0} (kit : Kit R W E M) where
     pub side : IsSide kit.protocol c s (side_at kit v seen)
     pub call : IsCall kit.protocol c s (side_at kit v seen) k
     pub packed : IsPacked k
-    pub unmarked : own_of kit.minds v ≡ None
-    pub no_mark : v.mark ≡ 0
+    -- its mark fits a word, and where it has one the phase word is of its own cycle
+    pub fits_own : FitsHand (own_of kit.minds v)
+    pub current : v.mark ≢ 0 → (cycle_at n.phase ≡ cycle_at v.acked) × IsFromSearch (stance_at n.phase)
+    -- while Free is not announced the mark is not 0
+    pub zero : is_mark c.mark (Num 0) ≡ false
     pub met : HasSpot seen k
 
   -- By its step, with this change or this look at an object with this seal, the space becomes t, which the words say then; the call goes on
   -- as `next`.
   pub record CallGoes (l : Sizes) (c : Cycle) (s t : Space) (n : Notices) (memory : ℕ → ℕ) (v : PassView) (seen : List Call) (change : Option Call) (look : Front) (seal : Option (List Call)) (next : Known) : Type 0 where
     pub says : Says l memory t n
+    pub spare : IsSpare l memory t
     pub rows : Rows l t.state t.len t.ends t.region
     pub objects : AreObjects kit.protocol c t
     pub lens : HasLens t
     pub leaves : Leaves kit.protocol l c s t
+    pub search : LeavesSearch kit.kind c (side_at kit v seen) s t
     pub others : SeenBy kit.protocol c s t
     pub regions : (region : ℕ) → SameRegion s t region
     pub change_is : change ≡ change_call next v.pass

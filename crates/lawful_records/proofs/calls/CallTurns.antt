@@ -33,13 +33,13 @@ module _ {R W E M : Type 0} (kit : Kit R W E M) (by : Stepping R W E M) (laws : 
         call_stands kit by l a c s n p words (machine.Read m) (kit.reads m) (kit.reads (by.read_fed m read_found)) (in_read kit m) stands is.0 (laws.reading.packed p.pass.view m is.1)
 
     pub read_inside : IsInside (words_of l) (by.read_asks m)
-    read_inside = machine_inside kit laws.table by.read_asks by.read_fed by.read_front kit.reads kit.ReadsFor kit.read_ended read_said laws.reading l c s n (reading words) p.pass.view p.seen m stands.own.machine.1 read_stands
+    read_inside = machine_inside kit laws.table laws.movable by.read_asks by.read_fed by.read_front kit.reads kit.ReadsFor kit.read_ended read_said laws.reading l c s n (reading words) p.pass.view p.seen m stands.own.machine.1 read_stands
 
-    read_goes : by.read_asks m ≢ Ended → MachineGoes kit laws.table by.read_asks by.read_fed by.read_front kit.reads kit.ReadsFor kit.read_ended read_said laws.reading l c s n (reading words) p.pass.view p.seen m stands.own.machine.1 read_stands
+    read_goes : by.read_asks m ≢ Ended → MachineGoes kit laws.table laws.movable by.read_asks by.read_fed by.read_front kit.reads kit.ReadsFor kit.read_ended read_said laws.reading l c s n (reading words) p.pass.view p.seen m stands.own.machine.1 read_stands
         (reading (applied (by.read_asks m) words)) (change_in kit by (in_machine p (machine.Read m)) words)
     read_goes on =
         let is = stands.own.machine in
-        machine_goes kit laws.table by.read_asks by.read_fed by.read_front kit.reads kit.ReadsFor kit.read_ended read_said laws.reading l c s n (reading words) p.pass.view p.seen m is.1 read_stands on
+        machine_goes kit laws.table laws.movable by.read_asks by.read_fed by.read_front kit.reads kit.ReadsFor kit.read_ended read_said laws.reading l c s n (reading words) p.pass.view p.seen m is.1 read_stands on
         (reading (applied (by.read_asks m) words)) (puts kit by l a c s n (in_machine p (machine.Read m)) words stands on read_inside)
         (change_in kit by (in_machine p (machine.Read m)) words) (λ task ends. sym (change_read (kit.reads (by.read_fed m read_found)) p.pass.view.pass ends (task ∙ is.2)))
 
@@ -65,13 +65,13 @@ module _ {R W E M : Type 0} (kit : Kit R W E M) (by : Stepping R W E M) (laws : 
         call_stands kit by l a c s n p words (machine.Write m) (kit.writes m) (kit.writes (by.write_fed m write_found)) (in_write kit m) stands is.0 (laws.writing.packed p.pass.view m is.1)
 
     pub write_inside : IsInside (words_of l) (by.write_asks m)
-    write_inside = machine_inside kit laws.table by.write_asks by.write_fed by.write_front kit.writes kit.WritesFor kit.write_ended write_said laws.writing l c s n (reading words) p.pass.view p.seen m stands.own.machine.1 write_stands
+    write_inside = machine_inside kit laws.table laws.movable by.write_asks by.write_fed by.write_front kit.writes kit.WritesFor kit.write_ended write_said laws.writing l c s n (reading words) p.pass.view p.seen m stands.own.machine.1 write_stands
 
-    write_goes : by.write_asks m ≢ Ended → MachineGoes kit laws.table by.write_asks by.write_fed by.write_front kit.writes kit.WritesFor kit.write_ended write_said laws.writing l c s n (reading words) p.pass.view p.seen m stands.own.machine.1 write_stands
+    write_goes : by.write_asks m ≢ Ended → MachineGoes kit laws.table laws.movable by.write_asks by.write_fed by.write_front kit.writes kit.WritesFor kit.write_ended write_said laws.writing l c s n (reading words) p.pass.view p.seen m stands.own.machine.1 write_stands
         (reading (applied (by.write_asks m) words)) (change_in kit by (in_machine p (machine.Write m)) words)
     write_goes on =
         let is = stands.own.machine in
-        machine_goes kit laws.table by.write_asks by.write_fed by.write_front kit.writes kit.WritesFor kit.write_ended write_said laws.writing l c s n (reading words) p.pass.view p.seen m is.1 write_stands on
+        machine_goes kit laws.table laws.movable by.write_asks by.write_fed by.write_front kit.writes kit.WritesFor kit.write_ended write_said laws.writing l c s n (reading words) p.pass.view p.seen m is.1 write_stands on
         (reading (applied (by.write_asks m) words)) (puts kit by l a c s n (in_machine p (machine.Write m)) words stands on write_inside)
         (change_in kit by (in_machine p (machine.Write m)) words) (λ task ends. refl)
 
@@ -97,13 +97,13 @@ module _ {R W E M : Type 0} (kit : Kit R W E M) (by : Stepping R W E M) (laws : 
         call_stands kit by l a c s n p words (machine.Exchange m) (kit.exchanges m) (kit.exchanges (by.exchange_fed m exchange_found)) (in_exchange kit m) stands is.0 (laws.exchanging.packed p.pass.view m is.1)
 
     pub exchange_inside : IsInside (words_of l) (by.exchange_asks m)
-    exchange_inside = machine_inside kit laws.table by.exchange_asks by.exchange_fed by.exchange_front kit.exchanges kit.ExchangesFor kit.exchange_ended exchange_said laws.exchanging l c s n (reading words) p.pass.view p.seen m stands.own.machine.1 exchange_stands
+    exchange_inside = machine_inside kit laws.table laws.movable by.exchange_asks by.exchange_fed by.exchange_front kit.exchanges kit.ExchangesFor kit.exchange_ended exchange_said laws.exchanging l c s n (reading words) p.pass.view p.seen m stands.own.machine.1 exchange_stands
 
-    exchange_goes : by.exchange_asks m ≢ Ended → MachineGoes kit laws.table by.exchange_asks by.exchange_fed by.exchange_front kit.exchanges kit.ExchangesFor kit.exchange_ended exchange_said laws.exchanging l c s n (reading words) p.pass.view p.seen m stands.own.machine.1 exchange_stands
+    exchange_goes : by.exchange_asks m ≢ Ended → MachineGoes kit laws.table laws.movable by.exchange_asks by.exchange_fed by.exchange_front kit.exchanges kit.ExchangesFor kit.exchange_ended exchange_said laws.exchanging l c s n (reading words) p.pass.view p.seen m stands.own.machine.1 exchange_stands
         (reading (applied (by.exchange_asks m) words)) (change_in kit by (in_machine p (machine.Exchange m)) words)
     exchange_goes on =
         let is = stands.own.machine in
-        machine_goes kit laws.table by.exchange_asks by.exchange_fed by.exchange_front kit.exchanges kit.ExchangesFor kit.exchange_ended exchange_said laws.exchanging l c s n (reading words) p.pass.view p.seen m is.1 exchange_stands on
+        machine_goes kit laws.table laws.movable by.exchange_asks by.exchange_fed by.exchange_front kit.exchanges kit.ExchangesFor kit.exchange_ended exchange_said laws.exchanging l c s n (reading words) p.pass.view p.seen m is.1 exchange_stands on
         (reading (applied (by.exchange_asks m) words)) (puts kit by l a c s n (in_machine p (machine.Exchange m)) words stands on exchange_inside)
         (change_in kit by (in_machine p (machine.Exchange m)) words) (λ task ends. refl)
 

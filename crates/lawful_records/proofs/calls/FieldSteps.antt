@@ -1,10 +1,11 @@
 -- The step of a call at a field.
 use Rattle.std.specs.Prelude.{IsTrue}
-use Rattle.std.proofs.Common.{◌≡◌, ◌⊎◌, ℕ, ◌<◌, inl, inr, List, Option, Some, None, true, false, refl, sym, ap, ◌∙◌, subst}
+use Rattle.std.proofs.Common.{◌≡◌, ◌≢◌, ◌⊎◌, ℕ, ◌<◌, inl, inr, List, Option, Some, None, true, false, refl, sym, ap, ◌∙◌, subst}
 use Rattle.call_steps.specs.StepLaws.{Put}
 use Rattle.call_steps.specs.Steps.{place_of, put_by, IsInside}
 use Rattle.heap_words.specs.Layouts.{Sizes, words_of}
 use Rattle.heap_words.specs.declared.field_word.FieldWord.{FieldWord}
+use Rattle.object_headers.specs.Changes.{is_clover}
 use Rattle.heap_history.specs.FixedHeaps.{answer}
 use Rattle.heap_history.specs.Histories.{is_change}
 use Rattle.heap_history.specs.NewestFirst.{heap_of_history, len_at}
@@ -13,19 +14,22 @@ use Rattle.heap_history.specs.declared.call.Call.{Call}
 use Rattle.handshakes.specs.declared.pass_view.PassView.{PassView}
 use Rattle.barriers.specs.declared.spot.Spot.{Spot}
 use Rattle.barriers.specs.declared.front.Front.{Front}
-use Rattle.barriers.specs.States.{State, Plain, Kept, Tagged, Underway, IsLive}
-use Rattle.barriers.specs.Spaces.{Space, Here, here}
+use Rattle.barriers.specs.Sets.{set2}
+use Rattle.barriers.specs.States.{State, Plain, Kept, Tagged, Underway, IsHome, IsLive}
+use Rattle.barriers.specs.Stances.{Free, Retired}
+use Rattle.barriers.specs.Spaces.{Space, Here, here, is_mark}
 use Rattle.barriers.specs.Says.{Notices, IsAtWord, IsWritten}
 use Rattle.barriers.specs.Cycles.{Cycle, Side}
-use Rattle.barriers.specs.Knowns.{Known, Finds, at_field, has_found, spot_of, task_of, call_of, step_of, hand_of, puts, looks}
+use Rattle.barriers.specs.Knowns.{Known, Checks, Finds, at_field, has_found, spot_of, task_of, call_of, step_of, hand_of, puts, looks}
 use Rattle.barriers.specs.Events.{Keep, May, grown}
 use Rattle.barriers.specs.Objects.{IsSide, IsCall}
 use Rattle.barriers.specs.Accesses.{put_state, found_in, history_after, space_after, side_after, known_after}
 use Rattle.barriers.specs.CallTurns.{CallStep}
 use Rattle.barriers.specs.Protocols.{Protocol, seen_after, word_found}
 use Rattle.barriers.specs.ProtocolLaws.{ProtocolLaws, StepEnd, GoesTo}
+use Rattle.barriers.specs.CycleLaws.{MovingLaws}
 use Rattle.barriers.specs.PlainCallLaws.{spot_at}
-use Rattle.barriers.specs.Kits.{Kit, IsWordOf}
+use Rattle.barriers.specs.Kits.{Kit, IsWordOf, IsCurrent}
 use Rattle.barriers.proofs.objects.Calls.{call_step, step_end}
 use Rattle.barriers.proofs.objects.Changes.{puts_word}
 use Rattle.barriers.proofs.objects.Outcomes.{Outcome, Still, Keeping, Putting, Putting_copy, Widening, outcome}
@@ -34,23 +38,26 @@ use Rattle.barriers.proofs.words.After.{says_after, rows_after}
 use Rattle.barriers.proofs.words.Calls.{at_word}
 use Rattle.barriers.proofs.words.Found.{found_word, step_inside}
 use Rattle.barriers.proofs.words.Packed.{found_fits}
-use Rattle.lawful_records.specs.Frames.{Grows, Left, Same, Untagged}
+use Rattle.barriers.proofs.words.SpareCalls.{spare_after}
+use Rattle.lawful_records.specs.Frames.{Grows, Left, Same, Untagged, KeepsUnmarked, LeavesSearch}
 use Rattle.lawful_records.specs.LawfulRecords.{IsUnborn}
 use Rattle.lawful_records.specs.Meetings.{FitsHand}
 use Rattle.lawful_records.specs.Turns.{change_call, with_change, seen_by, LooksOn}
 use Rattle.lawful_records.proofs.calls.Changes.{put_change, change_as, grown_as, reply_changes, ends_so, unborn_call}
 use Rattle.lawful_records.proofs.calls.CallSteps.{SameCall, CallStands, CallGoes}
-use Rattle.barriers.proofs.words.Sets.{set_cases}
+use Rattle.barriers.proofs.words.Sets.{set_cases, set2_cases}
 use Rattle.lawful_records.proofs.frames.JobStays.{head_same}
+use Rattle.lawful_records.proofs.frames.SearchStays.{left_there}
 use Rattle.lawful_records.proofs.telling.Meeting.{spot_later, hand_from, hand_found}
 use Rattle.lawful_records.proofs.telling.Replies.{EndsSo}
 use Rattle.lawful_records.proofs.telling.Turning.{seen_grows, pass_of_call}
 use Rattle.lawful_records.proofs.turns.Holding.{side_at}
 use Rattle.lawful_records.proofs.frames.SeenTurns.{seen_by_others}
 
--- of each address what is there is left, or its tag is Kept; and of each region its use and its end
+-- of each address what is there is left, or its tag is Kept; of each wide object the copy's address; and of each region its use and its end
 record StaysHere (P : Protocol) (l : Sizes) (s t : Space) : Type 0 where
   at : (a : ℕ) → Left P l s t a
+  address : (a : ℕ) → t.address a ≡ s.address a
   region : (k : ℕ) → t.region k ≡ s.region k
   ends : (k : ℕ) → t.ends k ≡ s.ends k
 
@@ -65,7 +72,7 @@ written : (x : State) → (x ≡ Plain) ⊎ (x ≡ Underway) → IsWritten x
 written x (inl is) = rw is tt
 written x (inr is) = rw is tt
 
-module _ {R W E M : Type 0} (kit : Kit R W E M) (table : ProtocolLaws kit.protocol) (l : Sizes) (c : Cycle) (s : Space) (n : Notices) (memory : ℕ → ℕ) (v : PassView) (seen : List Call) (k : Known)
+module _ {R W E M : Type 0} (kit : Kit R W E M) (table : ProtocolLaws kit.protocol) (movable : MovingLaws kit.kind kit.protocol) (l : Sizes) (c : Cycle) (s : Space) (n : Notices) (memory : ℕ → ℕ) (v : PassView) (seen : List Call) (k : Known)
     (stands : CallStands kit l c s n memory v seen k) where
   abbrev side : Side
   side = side_at kit v seen
@@ -84,6 +91,14 @@ module _ {R W E M : Type 0} (kit : Kit R W E M) (table : ProtocolLaws kit.protoc
 
   pub its_word_found : IsWordOf k (found_in c s k) (memory (place_of (step_of k)))
   its_word_found = found_word l memory s n stands.rows stands.says c.phase k stands.phase at_its_word
+
+  -- a phase word that it loads is the one that is announced
+  pub its_current : v.mark ≢ 0 → IsCurrent v k (memory (place_of (step_of k)))
+  its_current marked = by_known k
+    where
+      by_known : (x : Known) → IsCurrent v x (memory (place_of (step_of x)))
+      by_known (Checks y t cycle) = rw stands.says.notices.phase (stands.current marked)
+      by_known x = tt
 
   module _ (z : Spot) (at : at_field k ≡ Some z) where
     abbrev P : Protocol
@@ -122,17 +137,49 @@ module _ {R W E M : Type 0} (kit : Kit R W E M) (table : ProtocolLaws kit.protoc
     -- ---- the space and the history
 
     all_left : StaysHere P l s s
-    all_left = record { at = λ a. Same (head_same s a); region = λ r. refl; ends = λ r. refl }
+    all_left = record { at = λ a. Same (head_same s a); address = λ a. refl; region = λ r. refl; ends = λ r. refl }
 
     leaves : Outcome k found → StaysHere P l s t
     leaves (Still ev e) = rw ev all_left
-    leaves (Keeping ev e) = rw ev (record { at = keeps P l s (spot_of k).at (subst P.Makes ev end.makes) (subst (May c x) ev end.may); region = λ r. refl; ends = λ r. refl })
-    leaves (Putting w ev e) = rw ev (record { at = λ a. Same (record { state = refl; seal = refl; wide = refl; head = λ is. (refl, refl, refl) }); region = λ r. refl; ends = λ r. refl })
-    leaves (Putting_copy w ev e) = rw ev (record { at = λ a. Same (record { state = refl; seal = refl; wide = refl; head = λ is. (refl, refl, refl) }); region = λ r. refl; ends = λ r. refl })
-    leaves (Widening w ev e) = rw ev (record { at = λ a. Same (record { state = refl; seal = refl; wide = refl; head = λ is. (refl, refl, refl) }); region = λ r. refl; ends = λ r. refl })
+    leaves (Keeping ev e) = rw ev (record { at = keeps P l s (spot_of k).at (subst P.Makes ev end.makes) (subst (May c x) ev end.may); address = λ a. refl; region = λ r. refl; ends = λ r. refl })
+    leaves (Putting w ev e) = rw ev (record { at = λ a. Same (record { state = refl; seal = refl; wide = refl; head = λ is. (refl, refl, refl) }); address = λ a. refl; region = λ r. refl; ends = λ r. refl })
+    leaves (Putting_copy w ev e) = rw ev (record { at = λ a. Same (record { state = refl; seal = refl; wide = refl; head = λ is. (refl, refl, refl) }); address = λ a. refl; region = λ r. refl; ends = λ r. refl })
+    leaves (Widening w ev e) = rw ev (record { at = λ a. Same (record { state = refl; seal = refl; wide = refl; head = λ is. (refl, refl, refl) }); address = λ a. refl; region = λ r. refl; ends = λ r. refl })
 
     left : StaysHere P l s t
     left = leaves (outcome k found)
+
+    -- ---- what it leaves to a search
+
+    -- the word that it puts is not the mark, where its pass has that
+    not_mark : (w : FieldWord) → puts k found ≡ Some w → is_clover kit.kind ≡ true → c.phase ≢ Free → (side.acked ≢ Retired → side.own ≡ c.mark) → is_mark c.mark w ≡ false
+    not_mark w e clover running same = subst (λ (m : Option FieldWord). is_mark m w ≡ false) (same stands.call.runs) (movable.unwritten clover c side x k found w running (stands.call.own (spot_of k) at_k) e)
+
+    -- a word is put in one field
+    put_unmarked : (home g : ℕ) (w : FieldWord) → is_mark c.mark w ≡ false → (a f : ℕ) → (set2 s.field home g w a f ≡ s.field a f) ⊎ (is_mark c.mark (set2 s.field home g w a f) ≡ false)
+    put_unmarked home g w other a f = elim (set2_cases s.field home g w a f) [
+      | inl here ↦ inr (subst (λ (y : FieldWord). is_mark c.mark y ≡ false) (sym here.2) other)
+      | inr there ↦ inl there.1
+    ]
+
+    put_kept : (a f : ℕ) (y : FieldWord) → IsHome (s.state a) → f < s.len a → (y ≡ s.field a f) ⊎ (is_mark c.mark y ≡ false) → (IsHome (s.state a) × (f < s.len a) × (y ≡ s.field a f)) ⊎ (is_mark c.mark y ≡ false)
+    put_kept a f y home less is = elim is [ inl same ↦ inl (home, less, same) | inr other ↦ inr other ]
+
+    kept_home : (a : ℕ) → s.state (spot_of k).at ≡ Tagged → IsHome ((put_state s (spot_of k).at Kept).state a) → IsHome (s.state a)
+    kept_home a tagged home = elim (set_cases s.state (spot_of k).at a Kept) [ inl here ↦ rw (here.0, tagged) tt | inr there ↦ rw there.1 at home ]
+
+    unmarked_by : Outcome k found → KeepsUnmarked kit.kind c side s t
+    unmarked_by (Still ev e) clover running same a f home less = rw ev (inl (rw ev at home, rw ev at less, refl))
+    unmarked_by (Keeping ev e) clover running same a f home less = rw ev (inl (kept_home a (subst (May c x) ev end.may) (rw ev at home), rw ev at less, refl))
+    unmarked_by (Putting w ev e) clover running same a f home less = rw ev (put_kept a f _ (rw ev at home) (rw ev at less) (put_unmarked (s.home (spot_of k).birth) (spot_of k).field w (not_mark w e clover running same) a f))
+    unmarked_by (Putting_copy w ev e) clover running same a f home less = rw ev (put_kept a f _ (rw ev at home) (rw ev at less) (put_unmarked (s.home (spot_of k).birth) (spot_of k).field w (not_mark w e clover running same) a f))
+    unmarked_by (Widening w ev e) clover running same a f home less = rw ev (put_kept a f _ (rw ev at home) (rw ev at less) (put_unmarked (s.home (spot_of k).birth) (spot_of k).field w (not_mark w e clover running same) a f))
+
+    search : LeavesSearch kit.kind c side s t
+    search = record {
+      begun = λ region y begun. elim begun [ inl there ↦ inl (left_there P l s t y (left.at y) there) | inr ends ↦ inr (left.ends region ∙ ends) ];
+      unmarked = unmarked_by (outcome k found);
+    }
 
     told_by : Outcome k found → t.history ≡ history_after c s side k
     told_by (Still ev e) = rw (ev, e) refl
@@ -196,20 +243,23 @@ module _ {R W E M : Type 0} (kit : Kit R W E M) (table : ProtocolLaws kit.protoc
 
       -- a number in its hand fits
       hand_then : FitsHand (hand_of next)
-      hand_then = hand_from side.own (hand_of k) (word_found found) (hand_of next) to.hands (subst FitsHand (sym stands.unmarked) tt) (let met = stands.met in met.hand)
+      hand_then = hand_from side.own (hand_of k) (word_found found) (hand_of next) to.hands stands.fits_own (let met = stands.met in met.hand)
           (hand_found found (found_fits k found (memory (place_of (step_of k))) its_word_found))
 
       comes_to : (after : ℕ → ℕ) → Put memory after (place_of (step_of k)) (put_by (step_of k) (memory (place_of (step_of k)))) → CallGoes kit l c s t n after v seen change front x.seal next
       comes_to after put = record {
         says = says_after l memory after s n stands.rows stands.says c side k at_its_word stands.packed put;
+        spare = spare_after l memory after s n stands.rows stands.says stands.spare c side k at_its_word stands.call.hand put;
         rows = rows_after l c side s k stands.rows at_its_word;
         objects = made.objects;
         lens = made.lens;
         leaves = record {
           left = left.at;
+          address = left.address;
           pool = λ region low. record { word = left.region region; ends = left.ends region };
           moves = λ m j job absent is. made.moves m j job is;
         };
+        search = search;
         looks = looks_on;
         others = seen_by_others P table c s t stands.objects made.seen;
         regions = λ region. record { word = left.region region; ends = left.ends region };

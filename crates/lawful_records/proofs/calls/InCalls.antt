@@ -33,7 +33,6 @@ use Rattle.lawful_records.proofs.calls.CallSteps.{CallStands, CallGoes}
 use Rattle.lawful_records.proofs.frames.Machines.{good_stays, room_stays}
 use Rattle.lawful_records.proofs.telling.Meeting.{named_later}
 use Rattle.lawful_records.proofs.telling.Turning.{Ends, IsCallTold, seen_grows, call_ends, told_step}
-use Rattle.lawful_records.proofs.turns.PollTurns.{own_none}
 use Rattle.lawful_records.proofs.turns.Holding.{PassHolds, MachineHolds, side_at, holds_of, machine_of, record_of}
 
 module _ {R W E M : Type 0} (kit : Kit R W E M) where
@@ -92,10 +91,14 @@ module _ {R W E M : Type 0} (kit : Kit R W E M) where
     stood : MachineHolds kit l c s n (in_machine p m)
     stood = machine_of kit l a c s n (in_machine p m) stands.own
 
+    running : p.pass.view.acked ≢ retired_word
+    running = was.runs p.pass.view.acked (rw (was.view p.pass.view) at stood.retired)
+
     pub call_stands : IsCall kit.protocol c s (side_at kit p.pass.view p.seen) k → IsPacked k → CallStands kit l c s n (reading words) p.pass.view p.seen k
     call_stands call packed = record {
       layout = stands.layout;
       says = stands.says;
+      spare = stands.spare;
       phase = ap stance_at stands.announced ∙ stands.announcement.stance;
       rows = stands.rows;
       objects = stands.objects;
@@ -103,8 +106,9 @@ module _ {R W E M : Type 0} (kit : Kit R W E M) where
       side = held.side;
       call = call;
       packed = packed;
-      unmarked = own_none kit.minds p.pass.view held.unmarked;
-      no_mark = held.unmarked;
+      fits_own = stands.announcement.number p.pass.view held.number held.marked;
+      current = λ some. rw stands.announced (stands.announcement.current p.pass.view held.number held.marked running some);
+      zero = stands.announcement.zero;
       met = rw was.known at stood.call;
     }
 
@@ -124,7 +128,7 @@ module _ {R W E M : Type 0} (kit : Kit R W E M) where
         acked = held.acked;
         answers = held.answers;
         phase = held.phase;
-        unmarked = held.unmarked;
+        marked = held.marked;
         shaken = λ runs. (let shaken = held.shaken runs in record { told = shaken.told; own = shaken.own; clear = shaken.clear });
         eight = held.eight;
         good = λ i. good_stays s t (held_in p.pass.registers i) goes.others.holds (held.good i);
@@ -176,6 +180,7 @@ module _ {R W E M : Type 0} (kit : Kit R W E M) where
         notices = n;
         turn = record {
           says = goes.says;
+          spare = goes.spare;
           rows = goes.rows;
           objects = goes.objects;
           lens = goes.lens;
@@ -189,6 +194,7 @@ module _ {R W E M : Type 0} (kit : Kit R W E M) where
             history = rw same_number goes.grows;
           };
           leaves = goes.leaves;
+          search = rw (was.view p.pass.view) goes.search;
           history = goes.history;
           number = number_after;
           looks = subst (λ (seal : Option (List Call)). LooksOn (front_by kit by m found) seal s.history p.seen) (sym its_seal) goes.looks;

@@ -35,6 +35,8 @@ use Rattle.lawful_records.proofs.calls.Changes.{change_none}
 use Rattle.lawful_records.proofs.calls.CallSteps.{SameCall, CallStands, CallGoes}
 use Rattle.lawful_records.proofs.frames.PassStays.{seen_same}
 use Rattle.lawful_records.proofs.frames.JobStays.{leaves_same}
+use Rattle.lawful_records.proofs.frames.SearchStays.{search_same}
+use Rattle.lawful_records.proofs.frames.SpareStays.{spare_same}
 use Rattle.lawful_records.proofs.parties.Pasts.{looks_not}
 use Rattle.lawful_records.proofs.telling.Meeting.{spot_later}
 use Rattle.lawful_records.proofs.telling.Replies.{EndsSo}
@@ -80,10 +82,12 @@ module _ {R W E M : Type 0} (kit : Kit R W E M) (l : Sizes) (c : Cycle) (s : Spa
     ends_goes : (seal : Option (List Call)) (end : Ending) → EndsFound seen s z t end → (after : ℕ → ℕ) → Put memory after at (memory at) → CallGoes kit l c s s n after v seen None Stays seal (Over z t end)
     ends_goes seal end is after put = record {
       says = says_same l memory after s n (put_same memory after at (memory at) put refl) stands.rows stands.says;
+      spare = spare_same l memory after s stands.spare (put_same memory after at (memory at) put refl);
       rows = stands.rows;
       objects = stands.objects;
       lens = stands.lens;
       leaves = leaves_same kit.protocol l c s;
+      search = search_same kit.kind c side s;
       looks = looks_not seal s.history seen stands.side.past;
       others = seen_same kit.protocol c s;
       regions = λ region. record { word = refl; ends = refl };

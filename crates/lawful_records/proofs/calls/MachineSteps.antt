@@ -14,13 +14,14 @@ use Rattle.barriers.specs.Spaces.{Space, here, copy_word}
 use Rattle.barriers.specs.Says.{Notices}
 use Rattle.barriers.specs.Cycles.{Cycle}
 use Rattle.barriers.specs.Knowns.{Known, Follows, Over, Ending, at_field, spot_of, task_of, step_of, followed}
-use Rattle.barriers.specs.Kits.{Kit, Runs, Stands, IsWordOf, own_of}
+use Rattle.barriers.specs.Kits.{Kit, Runs, Stands, IsWordOf, IsCurrent, own_of}
 use Rattle.barriers.specs.Accesses.{found_in, space_after}
 use Rattle.barriers.specs.ProtocolLaws.{ProtocolLaws}
+use Rattle.barriers.specs.CycleLaws.{MovingLaws}
 use Rattle.lawful_records.specs.Turns.{change_call}
 use Rattle.lawful_records.proofs.calls.CallSteps.{SameCall, CallStands, CallGoes}
 use Rattle.lawful_records.proofs.calls.LinkSteps.{follow_goes}
-use Rattle.lawful_records.proofs.calls.FieldSteps.{its_step_inside, its_word_found, field_goes}
+use Rattle.lawful_records.proofs.calls.FieldSteps.{its_step_inside, its_word_found, its_current, field_goes}
 use Rattle.lawful_records.proofs.telling.Replies.{EndsSo}
 use Rattle.lawful_records.proofs.turns.Holding.{side_at}
 
@@ -35,11 +36,11 @@ standing (Follows s t f) = Leads f refl
 standing (Over s t end) = Stops refl
 standing k = At refl
 
-module _ {R W E M K End : Type 0} (kit : Kit R W E M) (table : ProtocolLaws kit.protocol) (asks : K → Step) (fed : K → ℕ → K) (fronts : K → ℕ → Front) (knows : K → Known) (For : PassView → K → Type 0) (ended : K → Option End) (said : Ending → Option End)
+module _ {R W E M K End : Type 0} (kit : Kit R W E M) (table : ProtocolLaws kit.protocol) (movable : MovingLaws kit.kind kit.protocol) (asks : K → Step) (fed : K → ℕ → K) (fronts : K → ℕ → Front) (knows : K → Known) (For : PassView → K → Type 0) (ended : K → Option End) (said : Ending → Option End)
     (runs : Runs kit.protocol (own_of kit.minds) asks fed fronts knows For ended said)
     (l : Sizes) (c : Cycle) (s : Space) (n : Notices) (memory : ℕ → ℕ) (v : PassView) (seen : List Call) (m : K) (own : For v m) (stands : CallStands kit l c s n memory v seen (knows m)) where
   pub machine_inside : IsInside (words_of l) (asks m)
-  machine_inside = subst (IsInside (words_of l)) (sym (runs.asks_alike v m own)) (its_step_inside kit table l c s n memory v seen (knows m) stands)
+  machine_inside = subst (IsInside (words_of l)) (sym (runs.asks_alike v m own)) (its_step_inside kit table movable l c s n memory v seen (knows m) stands)
 
   abbrev found : ℕ
   found = memory (place_of (asks m))
@@ -66,14 +67,14 @@ module _ {R W E M K End : Type 0} (kit : Kit R W E M) (table : ProtocolLaws kit.
       step_put = subst (λ (step : Step). Put memory after (place_of step) (put_by step (memory (place_of step)))) asks_is put
 
       word : IsWordOf k (found_in c s k) found
-      word = subst (λ (step : Step). IsWordOf k (found_in c s k) (memory (place_of step))) (sym asks_is) (its_word_found kit table l c s n memory v seen k stands)
+      word = subst (λ (step : Step). IsWordOf k (found_in c s k) (memory (place_of step))) (sym asks_is) (its_word_found kit table movable l c s n memory v seen k stands)
 
       at_its_field : at_field k ≡ Some (spot_of k) → MachineGoes after change
       at_its_field at =
-          let stood : Stands knows For v m c.phase (here s (spot_of k).at (spot_of k).field) (copy_word s (spot_of k).at (spot_of k).field) found = record { own = own; spot = spot_of k; at = at; word = word; current = λ marked. absurd (marked stands.no_mark) } in
+          let stood : Stands knows For v m c.phase (here s (spot_of k).at (spot_of k).field) (copy_word s (spot_of k).at (spot_of k).field) found = record { own = own; spot = spot_of k; at = at; word = word; current = λ marked. subst (λ (step : Step). IsCurrent v k (memory (place_of step))) (sym asks_is) (its_current kit table movable l c s n memory v seen k stands marked) } in
           let on = runs.goes v m c.phase (here s (spot_of k).at (spot_of k).field) (copy_word s (spot_of k).at (spot_of k).field) found stood in
           let looks = runs.looks_alike v m c.phase (here s (spot_of k).at (spot_of k).field) (copy_word s (spot_of k).at (spot_of k).field) found stood in
-          let gone = field_goes kit table l c s n memory v seen k stands (spot_of k) at after step_put (knows (fed m found)) on.0 change change_is (fronts m found) looks in
+          let gone = field_goes kit table movable l c s n memory v seen k stands (spot_of k) at after step_put (knows (fed m found)) on.0 change change_is (fronts m found) looks in
           record { keeps = on.1; same = gone.0; space = space_after c s (side_at kit v seen) k; goes = gone.1 }
 
       leads : (f : FollowMachine) → k ≡ Follows (spot_of k) (task_of k) f → MachineGoes after change

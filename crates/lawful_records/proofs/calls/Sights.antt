@@ -27,14 +27,15 @@ use Rattle.barriers.specs.Knowns.{Task, Reads, Writes, Exchanges, Known, Loads, 
 use Rattle.wide_objects.specs.Statuses.{InCopy}
 use Rattle.barriers.specs.Accesses.{found_in}
 use Rattle.barriers.specs.ProtocolLaws.{ProtocolLaws}
-use Rattle.barriers.specs.Kits.{Kit, Stepping, Laws, Runs, Stands, IsWordOf, own_of, read_said, write_said, exchange_said}
+use Rattle.barriers.specs.CycleLaws.{MovingLaws}
+use Rattle.barriers.specs.Kits.{Kit, Stepping, Laws, Runs, Stands, IsWordOf, own_of, read_said, write_said, exchange_said, IsCurrent}
 use Rattle.lawful_records.specs.PassTurns.{PassStands, in_machine, seal_for}
 use Rattle.lawful_records.specs.Turns.{seen_by, with_change, change_by, pass_asks, pass_fed, front_by, pass_turned}
 use Rattle.lawful_records.specs.Records.{number_of}
 use Rattle.lawful_records.specs.declared.records.PassKnown.{PassKnown}
 use Rattle.lawful_records.proofs.calls.CallSteps.{CallStands}
 use Rattle.lawful_records.proofs.calls.CallTurns.{read_stands, write_stands, exchange_stands}
-use Rattle.lawful_records.proofs.calls.FieldSteps.{its_word_found}
+use Rattle.lawful_records.proofs.calls.FieldSteps.{its_word_found, its_current}
 use Rattle.lawful_records.proofs.calls.MachineSteps.{Standing, At, Leads, Stops, standing}
 
 -- ---- looks that read no seal
@@ -75,7 +76,7 @@ module _ (a b : Option (List Call)) (h seen : List Call) where
 abbrev pub IsSealAt : Space → ℕ → Option (List Call) → Type 0
 IsSealAt s at seal = (a f : ℕ) → IsLive (s.state a) → f < s.len a → at ≡ a + 1 + f → seal ≡ s.seal a
 
-module _ {R W E M K End : Type 0} (kit : Kit R W E M) (table : ProtocolLaws kit.protocol) (asks : K → Step) (fed : K → ℕ → K) (fronts : K → ℕ → Front) (knows : K → Known) (For : PassView → K → Type 0) (ended : K → Option End) (said : Ending → Option End)
+module _ {R W E M K End : Type 0} (kit : Kit R W E M) (table : ProtocolLaws kit.protocol) (movable : MovingLaws kit.kind kit.protocol) (asks : K → Step) (fed : K → ℕ → K) (fronts : K → ℕ → Front) (knows : K → Known) (For : PassView → K → Type 0) (ended : K → Option End) (said : Ending → Option End)
     (runs : Runs kit.protocol (own_of kit.minds) asks fed fronts knows For ended said)
     (l : Sizes) (c : Cycle) (s : Space) (n : Notices) (memory : ℕ → ℕ) (v : PassView) (seen : List Call) (m : K) (own : For v m) (stands : CallStands kit l c s n memory v seen (knows m)) where
   abbrev k : Known
@@ -105,8 +106,8 @@ module _ {R W E M K End : Type 0} (kit : Kit R W E M) (table : ProtocolLaws kit.
     where
       by_standing : Standing k → front (fronts m found) seal h seen ≡ front (fronts m found) (s.seal (let z = spot_of k in z.at)) h seen
       by_standing (At at) =
-          let word = subst (λ (step : Step). IsWordOf k (found_in c s k) (memory (place_of step))) (sym asks_is) (its_word_found kit table l c s n memory v seen k stands) in
-          let stood : Stands knows For v m c.phase (here s (spot_of k).at (spot_of k).field) (copy_word s (spot_of k).at (spot_of k).field) found = record { own = own; spot = spot_of k; at = at; word = word; current = λ marked. absurd (marked stands.no_mark) } in
+          let word = subst (λ (step : Step). IsWordOf k (found_in c s k) (memory (place_of step))) (sym asks_is) (its_word_found kit table movable l c s n memory v seen k stands) in
+          let stood : Stands knows For v m c.phase (here s (spot_of k).at (spot_of k).field) (copy_word s (spot_of k).at (spot_of k).field) found = record { own = own; spot = spot_of k; at = at; word = word; current = λ marked. subst (λ (step : Step). IsCurrent v k (memory (place_of step))) (sym asks_is) (its_current kit table movable l c s n memory v seen k stands marked) } in
           rw (runs.looks_alike v m c.phase (here s (spot_of k).at (spot_of k).field) (copy_word s (spot_of k).at (spot_of k).field) found stood)
           (looks_alike seal (s.seal (let z = spot_of k in z.at)) h seen (own_of kit.minds v) k (found_in c s k) (loads_there seal is))
       by_standing (Leads f leads) = rw (runs.follows_on v m (spot_of k) (task_of k) f found own leads).2 refl
@@ -122,13 +123,13 @@ module _ {R W E M : Type 0} (kit : Kit R W E M) (by : Stepping R W E M) (laws : 
 
   pub sees_so : (p : PassKnown R W E) (m : PassMachine R W E) → PassStands kit by l a c s n (in_machine p m) words → pass_asks kit by m ≢ Ended → SeesBy p m
   sees_so p (machine.Read m) stands on seal is =
-      machine_sees kit laws.table by.read_asks by.read_fed by.read_front kit.reads kit.ReadsFor kit.read_ended read_said laws.reading l c s n (reading words) p.pass.view p.seen m stands.own.machine.1
+      machine_sees kit laws.table laws.movable by.read_asks by.read_fed by.read_front kit.reads kit.ReadsFor kit.read_ended read_said laws.reading l c s n (reading words) p.pass.view p.seen m stands.own.machine.1
       (read_stands kit by laws l a c s n p words m stands) on seal is s.history
   sees_so p (machine.Write m) stands on seal is =
-      machine_sees kit laws.table by.write_asks by.write_fed by.write_front kit.writes kit.WritesFor kit.write_ended write_said laws.writing l c s n (reading words) p.pass.view p.seen m stands.own.machine.1
+      machine_sees kit laws.table laws.movable by.write_asks by.write_fed by.write_front kit.writes kit.WritesFor kit.write_ended write_said laws.writing l c s n (reading words) p.pass.view p.seen m stands.own.machine.1
       (write_stands kit by laws l a c s n p words m stands) on seal is s.history
   sees_so p (machine.Exchange m) stands on seal is =
-      machine_sees kit laws.table by.exchange_asks by.exchange_fed by.exchange_front kit.exchanges kit.ExchangesFor kit.exchange_ended exchange_said laws.exchanging l c s n (reading words) p.pass.view p.seen m stands.own.machine.1
+      machine_sees kit laws.table laws.movable by.exchange_asks by.exchange_fed by.exchange_front kit.exchanges kit.ExchangesFor kit.exchange_ended exchange_said laws.exchanging l c s n (reading words) p.pass.view p.seen m stands.own.machine.1
       (exchange_stands kit by laws l a c s n p words m stands) on seal is s.history
   sees_so p m stands on seal is = refl
 

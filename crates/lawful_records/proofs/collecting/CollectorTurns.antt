@@ -13,9 +13,9 @@ use Rattle.barriers.specs.Spaces.{Space}
 use Rattle.barriers.specs.Says.{Notices}
 use Rattle.barriers.specs.Kits.{Kit, Stepping, Laws}
 use Rattle.lawful_records.specs.declared.job.TheConstants.{EMPTIED, FILLED}
-use Rattle.lawful_records.specs.declared.collector.Announcement.{Announcement}
-use Rattle.lawful_records.specs.declared.collector.Announcement.TheVariants.{Mark, Confirm, Copy, Fix, Free}
-use Rattle.lawful_records.specs.declared.collector.Awaited.{Awaited}
+use Rattle.lawful_records.specs.declared.stage.Announcement.{Announcement}
+use Rattle.lawful_records.specs.declared.stage.Announcement.TheVariants.{Mark, Confirm, Search, Copy, Fix, Free}
+use Rattle.lawful_records.specs.declared.awaited.Awaited.{Awaited}
 use Rattle.lawful_records.specs.declared.collector.CollectorMachine.{CollectorMachine}
 use Rattle.lawful_records.specs.declared.collector.CollectorMachine.TheVariants as collector
 use Rattle.lawful_records.specs.Collectors.{is_await, begun_by, with_await, awaits_behind, seals_of, look, AreEarlier}
@@ -34,6 +34,7 @@ use Rattle.lawful_records.proofs.parties.Pasts.{history_is}
 use Rattle.lawful_records.proofs.collecting.FirstJobs.{planned_is}
 use Rattle.lawful_records.proofs.collecting.Goes.{found_in, next_of, CollectorStands, CollectorGoes}
 use Rattle.lawful_records.proofs.collecting.HeardTurns.{heard_goes}
+use Rattle.lawful_records.proofs.collecting.SeekTurns.{draw_inside, draw_goes_on, seek_inside, seek_goes}
 use Rattle.lawful_records.proofs.collecting.WorkTurns.{store_inside, source_goes, target_goes}
 use Rattle.lawful_records.proofs.collecting.TagTurns.{tag_inside, tag_goes}
 use Rattle.lawful_records.proofs.collecting.MoveWork.{move_inside}
@@ -49,6 +50,7 @@ earlier_none changes = record { mark = omega arith; confirm = omega arith; copy 
 earlier_begun : (a : Announcement) (changes : ℕ) (h : Awaited) → AreEarlier changes h → AreEarlier changes (begun_by a h)
 earlier_begun Mark changes h are = earlier_none changes
 earlier_begun Confirm changes h are = are
+earlier_begun Search changes h are = are
 earlier_begun Copy changes h are = are
 earlier_begun Fix changes h are = are
 earlier_begun Free changes h are = are
@@ -56,6 +58,7 @@ earlier_begun Free changes h are = are
 earlier_with : (a : Announcement) (changes : ℕ) (h : Awaited) → AreEarlier changes h → AreEarlier changes (with_await a changes h)
 earlier_with Mark changes h are = record { mark = omega arith; confirm = are.confirm; copy = are.copy; fix = are.fix; free = are.free }
 earlier_with Confirm changes h are = record { mark = are.mark; confirm = omega arith; copy = are.copy; fix = are.fix; free = are.free }
+earlier_with Search changes h are = are
 earlier_with Copy changes h are = record { mark = are.mark; confirm = are.confirm; copy = omega arith; fix = are.fix; free = are.free }
 earlier_with Fix changes h are = record { mark = are.mark; confirm = are.confirm; copy = are.copy; fix = omega arith; free = are.free }
 earlier_with Free changes h are = record { mark = are.mark; confirm = are.confirm; copy = are.copy; fix = are.fix; free = omega arith }
@@ -83,6 +86,8 @@ module _ {R W E M : Type 0} (kit : Kit R W E M) (by : Stepping R W E M) (laws : 
   inside_of (collector.Await st pass m) stands =
       let same = await_is kit by.move_fed l kit.kind stands.cycles st pass m stands.collects in
       subst (λ (k : CollectorMachine M). IsInside (words_of l) (collector_asks kit by k)) (sym same) (look_inside st pass (subst Stands same stands))
+  inside_of (collector.Draw st) stands = draw_inside kit by laws l words s n counts sealed st stands
+  inside_of (collector.Seek st m) stands = seek_inside kit by laws l words s n counts sealed st m stands
   inside_of (collector.Source st job) stands =
       let first = planned_is l kit.kind stands.cycles st job stands.collects.stage stands.collects.job_is in
       store_inside kit by laws l words s n counts sealed (collector.Source st job) stands st.layout stands.collects.stage.layout EMPTIED (omega arith) first.pool regions.Source (λ e. cc e) tt
@@ -96,6 +101,8 @@ module _ {R W E M : Type 0} (kit : Kit R W E M) (by : Stepping R W E M) (laws : 
   goes_of : (k : CollectorMachine M) → Stands k → collector_asks kit by k ≢ Ended → CollectorGoes kit by l words s n sealed k
   goes_of (collector.Announce st) stands on = heard_goes kit by laws l words s n counts sealed (collector.Announce st) tt stands
   goes_of (collector.Await st pass m) stands on = heard_goes kit by laws l words s n counts sealed (collector.Await st pass m) tt stands
+  goes_of (collector.Draw st) stands on = draw_goes_on kit by laws l words s n counts sealed st stands
+  goes_of (collector.Seek st m) stands on = seek_goes kit by laws l words s n counts sealed st m stands
   goes_of (collector.Source st job) stands on = source_goes kit by laws l words s n counts sealed st job stands
   goes_of (collector.Target st job) stands on = target_goes kit by laws l words s n counts sealed st job stands
   goes_of (collector.Tag st job) stands on = tag_goes kit by laws l words s n counts sealed st job stands
@@ -117,17 +124,19 @@ module _ {R W E M : Type 0} (kit : Kit R W E M) (by : Stepping R W E M) (laws : 
   own : IsCollectorRecord kit l w.collector w.space q
   own = All-head (IsParty kit l w.collector w.space w.notices) (party.Collector q) others w.each
 
-  abbrev StandsAs : CollectorMachine M → Type 0
+  abbrev pub StandsAs : CollectorMachine M → Type 0
   StandsAs k = CollectorStands kit by l words w.space w.notices q.awaited q.sealed k
 
-  stands : StandsAs q.machine
+  pub stands : StandsAs q.machine
   stands = subst StandsAs (sym own.machine) (record {
     layout = w.layout;
     width = w.width;
     says = w.says;
+    spare = w.spare;
     announced = w.announced;
-    unmarked = w.unmarked;
+    drawn = w.drawn;
     rows = w.rows;
+    bare = w.bare;
     objects = w.objects;
     lens = w.lens;
     resting = w.resting;
@@ -135,6 +144,7 @@ module _ {R W E M : Type 0} (kit : Kit R W E M) (by : Stepping R W E M) (laws : 
     few = own.few;
     collects = own.collects;
     job = own.job;
+    search = own.search;
     awaited = own.awaited;
     sealed_are = own.sealed;
     only = own.only;
@@ -172,9 +182,11 @@ module _ {R W E M : Type 0} (kit : Kit R W E M) (by : Stepping R W E M) (laws : 
     moved = record {
       width = length-applied (collector_asks kit by q.machine) words ∙ w.width;
       says = goes.says;
+      spare = goes.spare;
       announced = goes.announced;
-      unmarked = goes.unmarked ∙ w.unmarked;
+      drawn = goes.drawn;
       rows = goes.rows;
+      bare = goes.bare;
       objects = goes.objects;
       lens = goes.lens;
       resting = goes.resting;
@@ -185,6 +197,7 @@ module _ {R W E M : Type 0} (kit : Kit R W E M) (by : Stepping R W E M) (laws : 
         few = stands.few;
         collects = plays_fed kit by.move_fed l kit.kind stands.cycles q.machine (found_in kit by l words q.machine) w.layout stands.collects;
         job = goes.job;
+        search = goes.search;
         awaited = subst (λ (h : List Call). AreEarlier (length h) after.awaited) (sym goes.history) (earlier_after q.machine next (length w.space.history) q.awaited stands.awaited);
         sealed = goes.sealed_are;
         only = goes.only;

@@ -9,19 +9,22 @@ use Rattle.object_headers.specs.Changes.{AllowedChange}
 use Rattle.barriers.specs.Spaces.{Space}
 use Rattle.barriers.specs.Says.{Notices, Says, header_in}
 use Rattle.barriers.specs.Rows.{Rows}
+use Rattle.barriers.specs.States.{Absent}
+use Rattle.barriers.specs.MoveWords.{IsSpare}
 use Rattle.barriers.specs.Objects.{AreObjects, HasLens}
 use Rattle.barriers.specs.Cycles.{Cycle, IsMoving}
 use Rattle.barriers.specs.Kits.{Kit, Stepping}
 use Rattle.lawful_records.specs.declared.job.TheConstants.{EMPTIED}
-use Rattle.lawful_records.specs.declared.collector.Awaited.{Awaited}
+use Rattle.lawful_records.specs.declared.awaited.Awaited.{Awaited}
 use Rattle.lawful_records.specs.declared.collector.CollectorMachine.{CollectorMachine}
 use Rattle.lawful_records.specs.declared.records.PassKnown.{PassKnown}
 use Rattle.lawful_records.specs.declared.records.Sealed.{Sealed}
-use Rattle.lawful_records.specs.Collectors.{AreEarlier}
+use Rattle.lawful_records.specs.Collectors.{drawn_of, AreEarlier}
 use Rattle.lawful_records.specs.Cycling.{announced_by, cycle_of}
 use Rattle.lawful_records.specs.Frames.{SeenBy, SameRegion, Beside}
 use Rattle.lawful_records.specs.Handshakes.{IsCollector}
-use Rattle.lawful_records.specs.JobStands.{stand_of, StandsAt}
+use Rattle.lawful_records.specs.JobStands.{stand_of, IsMovedBy, StandsAt}
+use Rattle.lawful_records.specs.Searches.{SearchStands}
 use Rattle.lawful_records.specs.LawfulRecords.{AreSealed, IsPassRecord}
 use Rattle.lawful_records.specs.Turns.{collector_asks, collector_fed, sealed_now}
 use Rattle.lawful_records.proofs.frames.PassStays.{pass_stays}
@@ -40,15 +43,18 @@ module _ {R W E M : Type 0} (kit : Kit R W E M) (by : Stepping R W E M) (l : Siz
     pub width : length words ≡ words_of l
     pub says : Says l (reading words) s n
     pub announced : n.phase ≡ (let a = announced_by k in a.word)
-    pub unmarked : n.mark ≡ 0
+    pub drawn : n.mark ≡ drawn_of k
+    pub spare : IsSpare l (reading words) s
     pub rows : Rows l s.state s.len s.ends s.region
+    pub bare : (a : ℕ) → s.state a ≡ Absent → s.wide a ≡ 0
     pub objects : AreObjects kit.protocol (cycle_of k) s
     pub lens : HasLens s
-    pub resting : (a : ℕ) → IsMoving (s.state a) → ⊥
+    pub resting : (a : ℕ) → IsMoving (s.state a) → IsMovedBy k a
     pub cycles : ℕ
     pub few : cycles ≤ 64
     pub collects : IsCollector l kit.kind cycles k
     pub job : StandsAt kit l (cycle_of k) s (stand_of k)
+    pub search : SearchStands l (cycle_of k) s k
     pub awaited : AreEarlier (length s.history) counts
     pub sealed_are : AreSealed s sealed
     pub only : All (λ (one : Sealed). one.at ≡ first_word l EMPTIED) sealed
@@ -59,14 +65,17 @@ module _ {R W E M : Type 0} (kit : Kit R W E M) (by : Stepping R W E M) (l : Siz
     pub notices : Notices
     pub says : Says l (reading (applied (collector_asks kit by k) words)) space notices
     pub announced : notices.phase ≡ (let a = announced_by (next_of k) in a.word)
-    pub unmarked : notices.mark ≡ n.mark
+    pub drawn : notices.mark ≡ drawn_of (next_of k)
+    pub spare : IsSpare l (reading (applied (collector_asks kit by k) words)) space
     pub rows : Rows l space.state space.len space.ends space.region
+    pub bare : (a : ℕ) → space.state a ≡ Absent → space.wide a ≡ 0
     pub objects : AreObjects kit.protocol (cycle_of (next_of k)) space
     pub lens : HasLens space
-    pub resting : (a : ℕ) → IsMoving (space.state a) → ⊥
+    pub resting : (a : ℕ) → IsMoving (space.state a) → IsMovedBy (next_of k) a
     pub history : space.history ≡ s.history
     pub passes : (p : PassKnown R W E) → IsPassRecord kit l (announced_by k) (cycle_of k) s n p → IsPassRecord kit l (announced_by (next_of k)) (cycle_of (next_of k)) space notices p
     pub job : StandsAt kit l (cycle_of (next_of k)) space (stand_of (next_of k))
+    pub search : SearchStands l (cycle_of (next_of k)) space (next_of k)
     pub sealed_are : AreSealed space (sealed ++ sealed_now kit by k s.history (found_in k))
     pub only : All (λ (one : Sealed). one.at ≡ first_word l EMPTIED) (sealed ++ sealed_now kit by k s.history (found_in k))
     pub heads : (a : ℕ) → (header_in space a ≡ header_in s a) ⊎ AllowedChange kit.kind (header_in s a) (header_in space a)

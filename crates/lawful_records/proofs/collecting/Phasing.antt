@@ -1,109 +1,152 @@
--- The collector's steps from one cycle word to the next, where nothing is on its way and no mark is drawn.
-use Rattle.std.proofs.Common.{◌≡◌, ◌≢◌, ℕ, inl, refl, sym, subst, ◌∙◌, true, false, None}
+-- The collector's steps from one cycle to the next, where nothing is on its way by a mark.
+use Rattle.std.proofs.Common.{◌≡◌, ◌≢◌, ℕ, ◌<◌, Bool, true, false, refl, Option, Some, None}
+use Rattle.object_headers.specs.Changes.{is_clover}
 use Rattle.heap_words.specs.declared.field_word.FieldWord.{FieldWord}
-use Rattle.barriers.specs.States.{State}
-use Rattle.barriers.specs.Stances.{Stance, Retired}
-use Rattle.barriers.specs.Spaces.{Space, here, place_word, copy_word}
-use Rattle.barriers.specs.Cycles.{Told, Cycle, Side, Phasing, Announce, Reach, phased, IsMoving, MayGo, MayPhase, Handshaken}
+use Rattle.heap_words.specs.declared.field_word.FieldWord.TheVariants.{Num}
+use Rattle.barriers.specs.States.{IsLive}
+use Rattle.barriers.specs.Stances.{Stance, Retired, Free}
+use Rattle.barriers.specs.Spaces.{Space, here, place_word, copy_word, is_mark}
+use Rattle.barriers.specs.Cycles.{Told, Cycle, Side, Phasing, Announce, Reach, Draw, Clears, phased, IsMoving, IsTold, IsSet, MayTurn, Handshaken}
 use Rattle.barriers.specs.Knowns.{Known}
 use Rattle.barriers.specs.Kits.{Kit}
-use Rattle.barriers.specs.Protocols.{Protocol, OnHand}
+use Rattle.barriers.specs.Protocols.{Protocol}
 use Rattle.barriers.specs.ProtocolLaws.{ProtocolLaws}
-use Rattle.barriers.specs.CycleLaws.{CycleLaws}
+use Rattle.barriers.specs.CycleLaws.{CycleLaws, MovingLaws}
 use Rattle.barriers.specs.Objects.{AreObjects, IsSide, IsCall}
 use Rattle.barriers.proofs.objects.Phases.{IsPhasing, MayPass, phase_objects, phase_side, phase_call}
-use Rattle.lawful_records.proofs.collecting.Stages.{none_own}
 
--- a cycle without a mark, in which no search ends clear
-abbrev pub plainly : Stance → Told → Cycle
-plainly phase told = record { late = true; phase = phase; told = told; mark = None; clear = false }
+-- a cycle of which words of moved originals may be read
+abbrev pub cycle_at : Stance → Told → Option FieldWord → Bool → Cycle
+cycle_at phase told mark clear = record { late = true; phase = phase; told = told; mark = mark; clear = clear }
 
--- what the steps of an announcement are: none of them draws a mark or ends a search
-abbrev IsTurn : Phasing → Type 0
-IsTurn (Announce p) = Unit {0}
-IsTurn (Reach t) = Unit {0}
-IsTurn e = ⊥
-
-module _ {R W E M : Type 0} (kit : Kit R W E M) (L : ProtocolLaws kit.protocol) (C : CycleLaws kit.protocol) where
+module _ {R W E M : Type 0} (kit : Kit R W E M) (L : ProtocolLaws kit.protocol) (C : CycleLaws kit.protocol) (s : Space) where
   abbrev P : Protocol
   P = kit.protocol
 
-  kind : (e : Phasing) → IsTurn e → P.Phases e
-  kind (Announce p) is = C.announce p
-  kind (Reach t) is = C.reach t
-  kind e is = absurd is
+  -- what a turn from one cycle to another makes of a pass
+  pub record PassGoes (c d : Cycle) (side : Side) : Type 0 where
+    pub side_on : IsSide P c s side → IsSide P d s side
+    pub call_on : (k : Known) → IsCall P c s side k → IsCall P d s side k
 
-  module _ (s : Space) (resting : (a : ℕ) → IsMoving (s.state a) → ⊥) where
-    goes : (phase : Stance) (told : Told) (e : Phasing) → IsTurn e → MayGo (plainly phase told) e
-    goes phase told (Announce p) is = λ free. refl
-    goes phase told (Reach t) is = tt
-    goes phase told e is = absurd is
+  goes_through : (b c d : Cycle) (side : Side) → PassGoes b c side → PassGoes c d side → PassGoes b d side
+  goes_through b c d side first then = record { side_on = λ is. then.side_on (first.side_on is); call_on = λ k is. then.call_on k (first.call_on k is) }
 
-    fields : (phase : Stance) (told : Told) (e : Phasing) → IsTurn e → (x : State) (o : FieldWord) → (IsMoving x → ⊥) → MayPhase (plainly phase told) x o e
-    fields phase told (Announce p) is x o rests = λ free. refl
-    fields phase told (Reach t) is x o rests = rests
-    fields phase told e is x o rests = absurd is
+  pub goes_same : (c : Cycle) (side : Side) → PassGoes c c side
+  goes_same c side = record { side_on = λ is. is; call_on = λ k is. is }
 
-    unmarked : (phase : Stance) (told : Told) (e : Phasing) → IsTurn e → (phased e (plainly phase told)).mark ≡ None
-    unmarked phase told (Announce p) is = refl
-    unmarked phase told (Reach t) is = refl
-    unmarked phase told e is = absurd is
+  -- a running pass fits the cycle
+  abbrev pub Fits : Cycle → Side → Type 0
+  Fits c side = side.acked ≢ Retired → Handshaken c side
 
-    is_phasing : (phase : Stance) (told : Told) (e : Phasing) → IsTurn e → IsPhasing P (plainly phase told) s e
-    is_phasing phase told e is = record {
-      kind = kind e is;
-      go = goes phase told e is;
-      fields = λ a f live lt. fields phase told e is (s.state a) (place_word None (here s a f) (copy_word s a f)) (resting a);
-      number = subst (OnHand (λ b a. ⊥)) (sym (unmarked phase told e is)) tt;
-      counts = λ a live counts. inl refl;
-    }
+  step_goes : (c : Cycle) (objects : AreObjects P c s) (e : Phasing) (is : IsPhasing P c s e) → (phased e c).late ≡ c.late → (side : Side) → (side.acked ≢ Retired → MayTurn c side e) → Fits (phased e c) side → PassGoes c (phased e c) side
+  step_goes c objects e is late side turns fits =
+      let may : side.acked ≢ Retired → MayPass P c side e = λ runs. record { turn = turns runs; fits = C.fits_by (phased e c) side (fits runs) } in
+      record {
+        side_on = λ was. phase_side P L c s objects e is side was may;
+        call_on = λ k was. phase_call P L c s objects e is side k was may (λ z at. rw late (was.counts z at));
+      }
 
-    -- what the steps from one cycle to another ask of a running pass: both fit what it has acknowledged
-    pub record Fits (c d : Cycle) (side : Side) : Type 0 where
-      pub before : side.acked ≢ Retired → Handshaken c side
-      pub after : side.acked ≢ Retired → Handshaken d side
+  module _ (resting : (a : ℕ) → IsMoving (s.state a) → ⊥) where
+    -- ---- who has acknowledged the last Copy word
 
-    module _ (phase stance : Stance) (told tells : Told) where
-      abbrev c : Cycle
-      c = plainly phase told
+    module _ (phase : Stance) (told : Told) (mark : Option FieldWord) (clear : Bool) (tells : Told) (objects : AreObjects P (cycle_at phase told mark clear) s) where
+      reaches : IsPhasing P (cycle_at phase told mark clear) s (Reach tells)
+      reaches = record { kind = C.reach tells; go = tt; fields = λ a f live lt. resting a; number = objects.number; counts = λ a live counts. counts }
 
-      abbrev d : Cycle
-      d = plainly stance tells
+      pub reach_objects : AreObjects P (cycle_at phase tells mark clear) s
+      reach_objects = phase_objects P L (cycle_at phase told mark clear) s objects (Reach tells) reaches
 
-      announced : IsPhasing P c s (Announce stance)
-      announced = is_phasing phase told (Announce stance) tt
+      pub reach_goes : (side : Side) → Fits (cycle_at phase tells mark clear) side → PassGoes (cycle_at phase told mark clear) (cycle_at phase tells mark clear) side
+      reach_goes side fits = step_goes (cycle_at phase told mark clear) objects (Reach tells) reaches refl side (λ runs. tt) fits
 
-      reached : IsPhasing P (plainly stance told) s (Reach tells)
-      reached = is_phasing stance told (Reach tells) tt
+    -- ---- Free is to be announced after a search that ended clear
 
-      module _ (objects : AreObjects P c s) where
-        first : AreObjects P (plainly stance told) s
-        first = phase_objects P L c s objects (Announce stance) announced
+    module _ (phase : Stance) (told : Told) (mark : Option FieldWord) (objects : AreObjects P (cycle_at phase told mark true) s) where
+      unclears : IsPhasing P (cycle_at phase told mark true) s (Clears false)
+      unclears = record { kind = C.unclear (cycle_at phase told mark true) objects.right refl; go = tt; fields = λ a f live lt. resting a; number = objects.number; counts = λ a live counts. counts }
 
-        pub turned_objects : AreObjects P d s
-        turned_objects = phase_objects P L (plainly stance told) s first (Reach tells) reached
+      unclear_objects : AreObjects P (cycle_at phase told mark false) s
+      unclear_objects = phase_objects P L (cycle_at phase told mark true) s objects (Clears false) unclears
 
-        module _ (side : Side) (fits : Fits c d side) where
-          own_none : side.acked ≢ Retired → side.own ≡ None
-          own_none runs = (fits.before runs).own ∙ none_own side.acked
+      unclear_goes : (side : Side) → Fits (cycle_at phase told mark false) side → PassGoes (cycle_at phase told mark true) (cycle_at phase told mark false) side
+      unclear_goes side fits = step_goes (cycle_at phase told mark true) objects (Clears false) unclears refl side (λ runs. tt) fits
 
-          may_announce : side.acked ≢ Retired → MayPass P c side (Announce stance)
-          may_announce runs = let was = fits.before runs in record {
-            turn = λ free. own_none runs;
-            fits = C.fits_by (plainly stance told) side (record { told = was.told; own = was.own; clear = λ e. absurd (cc e) });
-          }
+    -- ---- a phase is announced
 
-          may_reach : side.acked ≢ Retired → MayPass P (plainly stance told) side (Reach tells)
-          may_reach runs = let now = fits.after runs in record {
-            turn = tt;
-            fits = C.fits_by d side (record { told = now.told; own = now.own; clear = λ e. absurd (cc e) });
-          }
+    module _ (phase : Stance) (told : Told) (mark : Option FieldWord) (clear : Bool) (stance : Stance) (ends : stance ≡ Free → clear ≡ false) (objects : AreObjects P (cycle_at phase told mark clear) s) where
+      announces : IsPhasing P (cycle_at phase told mark clear) s (Announce stance)
+      announces = record { kind = C.announce stance; go = ends; fields = λ a f live lt. ends; number = objects.number; counts = λ a live counts. counts }
 
-          pub turned_side : IsSide P c s side → IsSide P d s side
-          turned_side is = phase_side P L (plainly stance told) s first (Reach tells) reached side (phase_side P L c s objects (Announce stance) announced side is may_announce) may_reach
+      says_objects : AreObjects P (cycle_at stance told mark clear) s
+      says_objects = phase_objects P L (cycle_at phase told mark clear) s objects (Announce stance) announces
 
-          pub turned_call : (k : Known) → IsCall P c s side k → IsCall P d s side k
-          turned_call k is =
-              phase_call P L (plainly stance told) s first (Reach tells) reached side k
-              (phase_call P L c s objects (Announce stance) announced side k is may_announce (λ z at. inl refl))
-              may_reach (λ z at. inl refl)
+      says_goes : (side : Side) → (side.acked ≢ Retired → phase ≡ Free → side.own ≡ None) → Fits (cycle_at stance told mark clear) side → PassGoes (cycle_at phase told mark clear) (cycle_at stance told mark clear) side
+      says_goes side leaves fits = step_goes (cycle_at phase told mark clear) objects (Announce stance) announces refl side leaves fits
+
+    -- ---- all of an announcement: whether a search has ended clear, the phase, and who is told
+
+    -- a search ends clear by no announcement, and Free ends that it has
+    abbrev pub Ends : Bool → Bool → Stance → Type 0
+    Ends before after stance = (after ≡ true → before ≡ true) × (stance ≡ Free → after ≡ false)
+
+    module _ (phase stance : Stance) (told tells : Told) (mark : Option FieldWord) where
+      announce_on : (clear : Bool) → (stance ≡ Free → clear ≡ false) → AreObjects P (cycle_at phase told mark clear) s → AreObjects P (cycle_at stance tells mark clear) s
+      announce_on clear ends objects = reach_objects stance told mark clear tells (says_objects phase told mark clear stance ends objects)
+
+      pub announce_objects : (before after : Bool) → Ends before after stance → AreObjects P (cycle_at phase told mark before) s → AreObjects P (cycle_at stance tells mark after) s
+      announce_objects true true ends objects = announce_on true ends.1 objects
+      announce_objects false false ends objects = announce_on false ends.1 objects
+      announce_objects true false ends objects = announce_on false ends.1 (unclear_objects phase told mark objects)
+      announce_objects false true ends objects = absurd (let no = ends.0 refl in cc no)
+
+      module _ (side : Side) (leaves : side.acked ≢ Retired → phase ≡ Free → side.own ≡ None) where
+        -- it fits the cycle in between
+        between : (clear less : Bool) → (less ≡ true → clear ≡ true) → (p : Stance) → Fits (cycle_at p told mark clear) side → Fits (cycle_at p told mark less) side
+        between clear less fewer p fits runs = let is = fits runs in record { told = is.told; own = is.own; clear = λ e. is.clear (fewer e) }
+
+        said_fits : (clear : Bool) → Fits (cycle_at phase told mark clear) side → Fits (cycle_at stance told mark clear) side
+        said_fits clear fits runs = let is = fits runs in record { told = is.told; own = is.own; clear = is.clear }
+
+        goes_on : (clear : Bool) → (stance ≡ Free → clear ≡ false) → AreObjects P (cycle_at phase told mark clear) s → Fits (cycle_at phase told mark clear) side → Fits (cycle_at stance tells mark clear) side
+            → PassGoes (cycle_at phase told mark clear) (cycle_at stance tells mark clear) side
+        goes_on clear ends objects before after =
+            goes_through (cycle_at phase told mark clear) (cycle_at stance told mark clear) (cycle_at stance tells mark clear) side
+            (says_goes phase told mark clear stance ends objects side leaves (said_fits clear before))
+            (reach_goes stance told mark clear tells (says_objects phase told mark clear stance ends objects) side after)
+
+        pub announce_goes : (before after : Bool) → Ends before after stance → AreObjects P (cycle_at phase told mark before) s → Fits (cycle_at phase told mark before) side → Fits (cycle_at stance tells mark after) side
+            → PassGoes (cycle_at phase told mark before) (cycle_at stance tells mark after) side
+        announce_goes true true ends objects was is = goes_on true ends.1 objects was is
+        announce_goes false false ends objects was is = goes_on false ends.1 objects was is
+        announce_goes true false ends objects was is =
+            let less : Fits (cycle_at phase told mark false) side = between true false (λ e. refl) phase was in
+            goes_through (cycle_at phase told mark true) (cycle_at phase told mark false) (cycle_at stance tells mark false) side
+            (unclear_goes phase told mark objects side less)
+            (goes_on false ends.1 (unclear_objects phase told mark objects) less is)
+        announce_goes false true ends objects was is = absurd (let no = ends.0 refl in cc no)
+
+    -- ---- a candidate is drawn
+
+    module _ (V : MovingLaws kit.kind kit.protocol) (clover : is_clover kit.kind ≡ true) (phase : Stance) (told : Told) (mark : Option FieldWord) where
+      module _ (drawn : ℕ) (objects : AreObjects P (cycle_at phase told mark false) s) where
+        draws : IsPhasing P (cycle_at phase told mark false) s (Draw (Num drawn))
+        draws = record { kind = V.draws clover (Num drawn); go = refl; fields = λ a f live lt. (resting a, refl); number = tt; counts = λ a live counts. counts }
+
+        pub draw_objects : AreObjects P (cycle_at phase told (Some (Num drawn)) false) s
+        draw_objects = phase_objects P L (cycle_at phase told mark false) s objects (Draw (Num drawn)) draws
+
+        pub draw_goes : (side : Side) → Fits (cycle_at phase told (Some (Num drawn)) false) side → PassGoes (cycle_at phase told mark false) (cycle_at phase told (Some (Num drawn)) false) side
+        draw_goes side fits = step_goes (cycle_at phase told mark false) objects (Draw (Num drawn)) draws refl side (λ runs. tt) fits
+
+      -- ---- a search ends clear
+
+      module _ (set : IsSet mark) (open_phase : phase ≢ Free) (zero : is_mark mark (Num 0) ≡ false) (objects : AreObjects P (cycle_at phase told mark false) s)
+          (passed : (a f : ℕ) → IsLive (s.state a) → f < s.len a → is_mark mark (place_word mark (here s a f) (copy_word s a f)) ≡ false) where
+        clears : IsPhasing P (cycle_at phase told mark false) s (Clears true)
+        clears = record { kind = V.clears clover; go = (set, open_phase, zero); fields = λ a f live lt. (set, open_phase, passed a f live lt); number = objects.number; counts = λ a live counts. counts }
+
+        pub clear_objects : AreObjects P (cycle_at phase told mark true) s
+        clear_objects = phase_objects P L (cycle_at phase told mark false) s objects (Clears true) clears
+
+        pub clear_goes : (side : Side) → (side.acked ≢ Retired → IsTold side.acked → ⊥) → Fits (cycle_at phase told mark true) side → PassGoes (cycle_at phase told mark false) (cycle_at phase told mark true) side
+        clear_goes side untold fits = step_goes (cycle_at phase told mark false) objects (Clears true) clears refl side untold fits

@@ -1,86 +1,38 @@
--- A collector plays its cycles: what it is after each step, and where its step leads.
-use Rattle.std.specs.Prelude.{nat_lt, if◌then◌else◌}
-use Rattle.std.proofs.Common.{◌≡◌, ℕ, ◌+◌, ◌-◌, ◌≤◌, ◌⊎◌, ◌==◌, Bool, true, false, Option, Some, None, refl, sym, ap, ◌∙◌, subst, arith, inl, inr}
+-- A collector plays its cycles: it stays a collector of these cycles after each step, whatever word that finds.
+use Rattle.std.specs.Prelude.{nat_lt, min, if◌then◌else◌}
+use Rattle.std.proofs.Common.{◌≡◌, ℕ, ◌+◌, ◌-◌, ◌^◌, ◌<◌, ◌≤◌, ◌⊎◌, ◌==◌, Bool, true, false, Option, Some, None, refl, sym, ap, ◌∙◌, subst, arith, inl, inr}
 use Rattle.std.proofs.lemmas.Bool.Decides.{nat_tests}
 use Rattle.std.proofs.lemmas.Bool.{eqb-true}
 use Rattle.heap_words.specs.Layouts.{Sizes, IsLayout, IsPass, ack_at}
 use Rattle.object_headers.specs.declared.change.Kind.{Kind}
-use Rattle.handshakes.specs.declared.answer.AwaitEnd.{AwaitEnd}
+use Rattle.object_headers.specs.Changes.{is_clover}
 use Rattle.handshakes.specs.declared.answer.AwaitEnd.TheVariants.{Answered, Retired, NotYet}
 use Rattle.handshakes.specs.declared.answer.AwaitMachine.{AwaitMachine}
 use Rattle.handshakes.specs.declared.answer.AwaitMachine.TheVariants as await
 use Rattle.handshakes.specs.PhaseWords.{retired_word}
-use Rattle.handshakes.specs.Handshakes.{Announced, HasAnswered, passing, Advances, Stays, Passes}
+use Rattle.mark_search.specs.declared.seek.SeekEnd.{SeekEnd}
+use Rattle.mark_search.specs.declared.seek.SeekEnd.TheVariants.{Clear, MarkFound}
+use Rattle.mark_search.specs.declared.seek.SeekMarkMachine.{SeekMarkMachine}
+use Rattle.mark_search.specs.Seeks as seeks
 use Rattle.space_reclaim.specs.declared.move_job.MoveJob.{MoveJob}
 use Rattle.barriers.specs.declared.ends.MoveEnd.{MoveEnd}
 use Rattle.barriers.specs.Kits.{Kit}
-use Rattle.lawful_records.specs.declared.collector.Announcement.{Announcement}
-use Rattle.lawful_records.specs.declared.collector.Announcement.TheVariants.{Mark, Confirm, Copy, Fix, Free}
-use Rattle.lawful_records.specs.declared.collector.Stage.{Stage}
+use Rattle.lawful_records.specs.declared.stage.Announcement.{Announcement}
+use Rattle.lawful_records.specs.declared.stage.Announcement.TheVariants.{Mark, Confirm, Search, Copy, Fix, Free}
+use Rattle.lawful_records.specs.declared.stage.Marks.{Marks}
+use Rattle.lawful_records.specs.declared.stage.Stage.{Stage}
 use Rattle.lawful_records.specs.declared.collector.CollectorMachine.{CollectorMachine}
 use Rattle.lawful_records.specs.declared.collector.CollectorMachine.TheVariants as collector
-use Rattle.lawful_records.specs.Collectors.{word_of, stage_before, stage_of, passed_of, planned, fed_of, look, looked, awaited, to_copy, to_fix, behind_by, moved_by, stage_at_start, collector_of}
-use Rattle.lawful_records.specs.Cycling.{announced_by}
-use Rattle.lawful_records.specs.Handshakes.{IsStage, IsAwait, IsWork, IsCollector}
+use Rattle.lawful_records.specs.declared.stage.TheConstants.{SEARCHES}
+use Rattle.lawful_records.specs.Collectors.{word_of, mark_word, searched, planned, fed_of, look, looked, awaited, sought, to_tag, move_at, to_fix, behind_by, moved_by, stage_at_start, collector_of}
+use Rattle.lawful_records.specs.Handshakes.{HasDrawn, DrewBefore, IsMarked, IsStage, IsAwait, IsSearch, IsWork, work_before, IsCollector}
+use Rattle.lawful_records.specs.Searches.{Seeks}
+use Rattle.lawful_records.proofs.collecting.Seeking.{seeks_begun, seeks_on}
 
--- ---- the stage that is announced
-
-as_announced : (s : Stage) (a : Announcement) → s.announcement ≡ a → record s { announcement = a } ≡ s
-as_announced s a is = sym (ap (λ (a : Announcement). record s { announcement = a }) is)
+-- ---- a look
 
 module _ {R W E M : Type 0} (kit : Kit R W E M) where
-  pub stage_behind_free : (s : Stage) (more : Bool) → s.announcement ≡ Free → stage_of {M = M} (if more then collector.Announce (record s { cycle = s.cycle + 1; announcement = Mark }) else collector.Done s) ≡ s
-  stage_behind_free s true is =
-      let cycle : s.cycle + 1 - 1 ≡ s.cycle = omega arith in
-      rw cycle (as_announced s Free is)
-  stage_behind_free s false is = refl
-
-  stage_to_copy : (job : Option MoveJob) (s : Stage) → s.announcement ≡ Confirm → stage_of {M = M} (to_copy job s) ≡ s
-  stage_to_copy None s is = as_announced s Confirm is
-  stage_to_copy (Some job) s is = as_announced s Confirm is
-
-  stage_to_fix : (job : Option MoveJob) (s : Stage) → s.announcement ≡ Copy → stage_of (to_fix kit job s) ≡ s
-  stage_to_fix None s is = as_announced s Copy is
-  stage_to_fix (Some job) s is = as_announced s Copy is
-
-  stage_behind : (a : Announcement) (s : Stage) → s.announcement ≡ a → stage_of (behind_by kit a s) ≡ s
-  stage_behind Mark s is = as_announced s Mark is
-  stage_behind Confirm s is = stage_to_copy (planned s) s is
-  stage_behind Copy s is = stage_to_fix (planned s) s is
-  stage_behind Fix s is = as_announced s Fix is
-  stage_behind Free s is = stage_behind_free s (nat_lt s.cycle s.cycles) is
-
-  passed_behind_free : (s : Stage) (more : Bool) → passed_of {M = M} (if more then collector.Announce (record s { cycle = s.cycle + 1; announcement = Mark }) else collector.Done s) ≡ s.layout.passes
-  passed_behind_free s true = refl
-  passed_behind_free s false = refl
-
-  passed_to_copy : (job : Option MoveJob) (s : Stage) → passed_of {M = M} (to_copy job s) ≡ s.layout.passes
-  passed_to_copy None s = refl
-  passed_to_copy (Some job) s = refl
-
-  passed_to_fix : (job : Option MoveJob) (s : Stage) → passed_of (to_fix kit job s) ≡ s.layout.passes
-  passed_to_fix None s = refl
-  passed_to_fix (Some job) s = refl
-
-  passed_behind : (a : Announcement) (s : Stage) → passed_of (behind_by kit a s) ≡ s.layout.passes
-  passed_behind Mark s = refl
-  passed_behind Confirm s = passed_to_copy (planned s) s
-  passed_behind Copy s = passed_to_fix (planned s) s
-  passed_behind Fix s = refl
-  passed_behind Free s = passed_behind_free s (nat_lt s.cycle s.cycles)
-
-  stage_awaited : (s : Stage) (pass : ℕ) (more : Bool) → stage_of (if more then look s (pass + 1) else behind_by kit s.announcement s) ≡ s
-  stage_awaited s pass true = refl
-  stage_awaited s pass false = stage_behind s.announcement s refl
-
-  -- a look leaves the stage, whatever it finds
-  pub stage_looked : (s : Stage) (pass : ℕ) (m : AwaitMachine) (end : Option AwaitEnd) → stage_of (looked kit s pass m end) ≡ s
-  stage_looked s pass m (Some Answered) = stage_awaited s pass (nat_lt pass s.layout.passes)
-  stage_looked s pass m (Some Retired) = stage_awaited s pass (nat_lt pass s.layout.passes)
-  stage_looked s pass m (Some (NotYet at found)) = refl
-  stage_looked s pass m None = refl
-
-  -- a look goes on where it found the announced word or that of Retired, and else is the same again
+  -- it goes on where it found the announced word or that of Retired, and else is the same again
   look_tells_by : (s : Stage) (pass : ℕ) (m : AwaitMachine) (found : ℕ) (same ended : Bool) → (found == word_of s) ≡ same → (found == retired_word) ≡ ended →
       (((found ≡ retired_word) ⊎ (found ≡ word_of s)) × (looked kit s pass m (Some (if same then Answered else (if ended then Retired else NotYet pass found))) ≡ awaited kit s pass))
       ⊎ (looked kit s pass m (Some (if same then Answered else (if ended then Retired else NotYet pass found))) ≡ collector.Await s pass m)
@@ -88,113 +40,199 @@ module _ {R W E M : Type 0} (kit : Kit R W E M) where
   look_tells_by s pass m found false true is other = inl (inl (eqb-true found retired_word other), refl)
   look_tells_by s pass m found false false is other = inr refl
 
-  module _ (fed : M → ℕ → M) where
-    pub look_tells : (s : Stage) (pass found : ℕ) →
-        (((found ≡ retired_word) ⊎ (found ≡ word_of s)) × (fed_of kit fed (look s pass) found ≡ awaited kit s pass)) ⊎ (fed_of kit fed (look s pass) found ≡ look s pass)
-    look_tells s pass found = look_tells_by s pass (await.Acknowledgement (ack_at pass) pass (word_of s)) found (found == word_of s) (found == retired_word) refl refl
+  pub look_tells : (fed : M → ℕ → M) (s : Stage) (pass found : ℕ) →
+      (((found ≡ retired_word) ⊎ (found ≡ word_of s)) × (fed_of kit fed (look s pass) found ≡ awaited kit s pass)) ⊎ (fed_of kit fed (look s pass) found ≡ look s pass)
+  look_tells fed s pass found = look_tells_by s pass (await.Acknowledgement (ack_at pass) pass (word_of s)) found (found == word_of s) (found == retired_word) refl refl
 
-    -- ---- the collector itself
+-- ---- what was drawn, from one announcement to the next
 
-    module _ (l : Sizes) (kind : Kind) (cycles : ℕ) where
-      pub plays_behind_free : (s : Stage) (more : Bool) → s.layout ≡ l → s.kind ≡ kind → s.cycles ≡ cycles → s.cycle ≤ cycles → s.announcement ≡ Free → nat_lt s.cycle s.cycles ≡ more
-          → IsCollector {M = M} l kind cycles (if more then collector.Announce (record s { cycle = s.cycle + 1; announcement = Mark }) else collector.Done s)
-      plays_behind_free s true layout kind_is cycles_are last free is = record {
-        layout = layout;
-        kind_is = kind_is;
-        cycles_are = cycles_are;
-        first = omega arith;
-        last = grind (arith, nat_tests);
-      }
-      plays_behind_free s false layout kind_is cycles_are last free is = record {
-        layout = layout;
-        kind_is = kind_is;
-        cycles_are = cycles_are;
-        last = grind (arith, nat_tests);
-        free = free;
-      }
+marked_confirm : (clover : Bool) (cycle : ℕ) (m : Marks) → IsMarked clover Mark cycle m → IsMarked clover Confirm cycle m
+marked_confirm true cycle m is = is
+marked_confirm false cycle m is = is
 
-      -- another announcement of the cycle
-      plays_next : (s : Stage) (next : Announcement) → IsStage l kind cycles s → IsStage l kind cycles (record s { announcement = next })
-      plays_next s next is = record { layout = is.layout; kind_is = is.kind_is; cycles_are = is.cycles_are; first = is.first; last = is.last }
+marked_fix : (clover : Bool) (cycle : ℕ) (m : Marks) → IsMarked clover Copy cycle m → IsMarked clover Fix cycle m
+marked_fix true cycle m is = (is.0, λ unclear. absurd (let no : true ≡ false = sym is.1 ∙ unclear in cc))
+marked_fix false cycle m is = is
 
-      plays_to_copy : (s : Stage) (job : Option MoveJob) → IsStage l kind cycles s → planned s ≡ job → IsCollector {M = M} l kind cycles (to_copy job s)
-      plays_to_copy s None is e = plays_next s Copy is
-      plays_to_copy s (Some job) is e = record { stage = plays_next s Copy is; next_is = refl; job_is = e }
+marked_free : (clover : Bool) (cycle : ℕ) (m : Marks) → IsMarked clover Fix cycle m → IsMarked clover Free cycle m
+marked_free true cycle m is = is.0
+marked_free false cycle m is = is
 
-      plays_to_fix : (s : Stage) (job : Option MoveJob) → IsStage l kind cycles s → planned s ≡ job → IsCollector l kind cycles (to_fix kit job s)
-      plays_to_fix s None is e = plays_next s Fix is
-      plays_to_fix s (Some job) is e = record { stage = plays_next s Fix is; next_is = refl; job_is = e }
+marked_mark : (clover : Bool) (cycle : ℕ) (m : Marks) → 1 ≤ cycle → IsMarked clover Free cycle m → IsMarked clover Mark (cycle + 1) m
+marked_mark true cycle m first is = omega (arith, first, is.few, is.last)
+marked_mark false cycle m first is = is
 
-      plays_behind : (s : Stage) (a : Announcement) → IsStage l kind cycles s → s.announcement ≡ a → IsCollector l kind cycles (behind_by kit a s)
-      plays_behind s Mark is e = plays_next s Confirm is
-      plays_behind s Confirm is e = plays_to_copy s (planned s) is refl
-      plays_behind s Copy is e = plays_to_fix s (planned s) is refl
-      plays_behind s Fix is e = plays_next s Free is
-      plays_behind s Free is e = plays_behind_free s (nat_lt s.cycle s.cycles) is.layout is.kind_is is.cycles_are is.last e refl
+-- the first candidate of a cycle is drawn
+drawn_first : (cycle : ℕ) (m : Marks) → DrewBefore cycle m → HasDrawn cycle (let s = m in record { candidates = record m.candidates { drawn = min ((let c = m.candidates in c.drawn) + 1) (2 ^ 32 - 1) }; round = 1; clear = false })
+drawn_first cycle m few = record { first = omega arith; last = omega arith; some = omega arith; few = omega (arith, few) }
 
-      plays_awaited : (s : Stage) (pass : ℕ) (more : Bool) → IsStage l kind cycles s → 1 ≤ pass → nat_lt pass s.layout.passes ≡ more → IsCollector l kind cycles (if more then look s (pass + 1) else behind_by kit s.announcement s)
-      plays_awaited s pass true is least e =
-          let passes : s.layout.passes ≡ l.passes = ap (λ (t : Sizes). t.passes) is.layout in
-          record { stage = is; in_layout = (omega arith, grind (arith, nat_tests)); look = refl }
-      plays_awaited s pass false is least e = plays_behind s s.announcement is refl
+-- and a further one
+drawn_next : (cycle : ℕ) (m : Marks) → HasDrawn cycle m → m.round < SEARCHES → HasDrawn cycle (record { candidates = record m.candidates { drawn = min ((let c = m.candidates in c.drawn) + 1) (2 ^ 32 - 1) }; round = m.round + 1; clear = false })
+drawn_next cycle m is more = record { first = omega arith; last = omega (arith, more); some = omega (arith, is.some, is.last); few = omega (arith, is.few) }
 
-      plays_look : (s : Stage) (pass found : ℕ) → IsStage l kind cycles s → IsPass l pass → IsCollector l kind cycles (fed_of kit fed (look s pass) found)
-      plays_look s pass found is in_layout = elim (look_tells s pass found) [
-        | inl on ↦ subst (IsCollector l kind cycles) (sym on.1) (plays_awaited s pass (nat_lt pass s.layout.passes) is in_layout.0 refl)
-        | inr again ↦ subst (IsCollector l kind cycles) (sym again) (record { stage = is; in_layout = in_layout; look = refl })
-      ]
+module _ {R W E M : Type 0} (kit : Kit R W E M) (fed : M → ℕ → M) (l : Sizes) (kind : Kind) (cycles : ℕ) where
+  abbrev Plays : CollectorMachine M → Type 0
+  Plays k = IsCollector l kind cycles k
 
-      -- the machine of an await is the look at its pass
-      pub await_is : (s : Stage) (pass : ℕ) (m : AwaitMachine) → IsAwait l kind cycles s pass m → collector.Await s pass m ≡ look {M = M} s pass
-      await_is s pass m is = ap (λ (x : AwaitMachine). collector.Await s pass x) is.look
+  -- ---- the next announcement
 
-      -- after a step of the move
-      plays_moved : (s : Stage) (job : MoveJob) (m : M) (end : Option MoveEnd) → IsWork l kind cycles Fix s job → IsCollector l kind cycles (moved_by kit s job m end)
-      plays_moved s job m None is = is
-      plays_moved s job m (Some end) is = is.stage
+  pub plays_behind_free : (s : Stage) (more : Bool) → s.layout ≡ l → s.kind ≡ kind → s.cycles ≡ cycles → s.cycle ≤ cycles → s.announcement ≡ Free → IsMarked (is_clover kind) Mark (s.cycle + 1) s.marks → nat_lt s.cycle s.cycles ≡ more
+      → Plays (if more then collector.Announce (record s { cycle = s.cycle + 1; announcement = Mark }) else collector.Done s)
+  plays_behind_free s true layout kind_is cycles_are last free marked is = record {
+    layout = layout;
+    kind_is = kind_is;
+    cycles_are = cycles_are;
+    first = omega arith;
+    last = grind (arith, nat_tests);
+    marked = marked;
+  }
+  plays_behind_free s false layout kind_is cycles_are last free marked is = record {
+    layout = layout;
+    kind_is = kind_is;
+    cycles_are = cycles_are;
+    last = grind (arith, nat_tests);
+    free = free;
+  }
 
-      -- every word that it is fed leaves it a collector of these cycles
-      pub plays_fed : (k : CollectorMachine M) (found : ℕ) → IsLayout l → IsCollector l kind cycles k → IsCollector l kind cycles (fed_of kit fed k found)
-      plays_fed (collector.Announce s) found layout is = record { stage = is; in_layout = (omega arith, layout.passes.0); look = refl }
-      plays_fed (collector.Await s pass m) found layout is =
-          subst (λ (k : CollectorMachine M). IsCollector l kind cycles (fed_of kit fed k found)) (sym (await_is s pass m is)) (plays_look s pass found is.stage is.in_layout)
-      plays_fed (collector.Source s job) found layout is = is
-      plays_fed (collector.Target s job) found layout is = is
-      plays_fed (collector.Tag s job) found layout is = is.stage
-      plays_fed (collector.Move s job m) found layout is = plays_moved s job (fed m found) (kit.move_ended (fed m found)) is
-      plays_fed (collector.Done s) found layout is = is
+  -- another announcement of the cycle
+  plays_next : (s : Stage) (next : Announcement) → IsStage l kind cycles s → IsMarked (is_clover kind) next s.cycle s.marks → IsStage l kind cycles (record s { announcement = next })
+  plays_next s next is marked = record { layout = is.layout; kind_is = is.kind_is; cycles_are = is.cycles_are; first = is.first; last = is.last; marked = marked }
 
-    -- ---- a step leads on
+  -- what was drawn, where this is announced
+  marked_at : (s : Stage) (a : Announcement) → IsStage l kind cycles s → s.announcement ≡ a → IsMarked (is_clover kind) a s.cycle s.marks
+  marked_at s a is e = subst (λ (x : Announcement). IsMarked (is_clover kind) x s.cycle s.marks) e is.marked
 
-    announced_as : (k : CollectorMachine M) (s : Stage) (n : ℕ) → stage_of k ≡ s → passed_of k ≡ n → announced_by k ≡ record { word = word_of s; before = word_of (stage_before s); passed = n }
-    announced_as k s n stage passed = rw (stage, passed) refl
+  -- the next search
+  plays_search : (s : Stage) (round : ℕ) → IsStage l kind cycles s → is_clover kind ≡ true → HasDrawn s.cycle (let t = searched s round in t.marks) → IsSearch l kind cycles (searched s round)
+  plays_search s round is clover drawn = record {
+    stage = record { layout = is.layout; kind_is = is.kind_is; cycles_are = is.cycles_are; first = is.first; last = is.last; marked = rw clover (drawn, refl) };
+    search = refl;
+  }
 
-    -- the await goes on to the next pass, or the next announcement comes
-    advances_awaited : (l : Sizes) (s : Stage) (pass : ℕ) (acked : ℕ → ℕ) (more : Bool) → s.layout ≡ l → IsPass l pass → nat_lt pass s.layout.passes ≡ more → HasAnswered (announced_by {M = M} (look s pass)) (acked pass)
-        → Advances l acked (announced_by {M = M} (look s pass)) (announced_by (if more then look s (pass + 1) else behind_by kit s.announcement s))
-    advances_awaited l s pass acked more layout there is answered =
-        let a : Announced = announced_by {M = M} (look s pass) in
-        let same : pass - 1 + 1 ≡ pass = omega (arith, there.0) in
-        let step : Advances l acked a (passing a) = Passes (subst (λ (n : ℕ). HasAnswered a (acked n)) (sym same) answered) in
-        let passes : s.layout.passes ≡ l.passes = ap (λ (t : Sizes). t.passes) layout in
-        let leads : announced_by (if more then look s (pass + 1) else behind_by kit s.announcement s) ≡ passing a =
-        announced_as (if more then look s (pass + 1) else behind_by kit s.announcement s) s (pass - 1 + 1) (stage_awaited s pass more) (passed_awaited l s pass more passes there is) in
-        subst (Advances l acked a) (sym leads) step
-      where
-        passed_awaited : (l : Sizes) (s : Stage) (pass : ℕ) (more : Bool) → s.layout.passes ≡ l.passes → IsPass l pass → nat_lt pass s.layout.passes ≡ more → passed_of (if more then look s (pass + 1) else behind_by kit s.announcement s) ≡ pass - 1 + 1
-        passed_awaited l s pass true passes there is = omega (arith, there.0)
-        passed_awaited l s pass false passes there is =
-            let most : s.layout.passes ≤ pass = grind (arith, nat_tests) in
-            passed_behind s.announcement s ∙ omega (arith, there.0, there.1)
+  plays_to_tag : (s : Stage) (job : Option MoveJob) → IsStage l kind cycles s → s.announcement ≡ Confirm → is_clover kind ≡ false → planned s ≡ job → Plays (to_tag job s)
+  plays_to_tag s None is e plain planned_is = plays_next s Copy is (tagging s is e plain)
+    where
+      tagging : (s : Stage) → IsStage l kind cycles s → s.announcement ≡ Confirm → is_clover kind ≡ false → IsMarked (is_clover kind) Copy s.cycle s.marks
+      tagging s is e plain = let marked : IsMarked false Confirm s.cycle s.marks = rw plain at (marked_at s Confirm is e) in rw plain (tt, marked.1, marked.2)
+  plays_to_tag s (Some job) is e plain planned_is =
+      let marked : IsMarked false Confirm s.cycle s.marks = rw plain at (marked_at s Confirm is e) in
+      record { stage = plays_next s Copy is (rw plain (tt, marked.1, marked.2)); next_is = rw plain refl; job_is = planned_is; clear = λ clover. absurd (let no : false ≡ true = sym plain ∙ clover in cc no) }
 
-    -- a look finds the acknowledgement of its pass
-    pub advances_look : (l : Sizes) (s : Stage) (pass : ℕ) (acked : ℕ → ℕ) → s.layout ≡ l → IsPass l pass → Advances l acked (announced_by {M = M} (look s pass)) (announced_by (fed_of kit fed (look s pass) (acked pass)))
-    advances_look l s pass acked layout there =
-        let Leads : CollectorMachine M → Type 0 = λ k. Advances l acked (announced_by {M = M} (look s pass)) (announced_by k) in
-        elim (look_tells s pass (acked pass)) [
-          | inl on ↦ subst Leads (sym on.1) (advances_awaited l s pass acked (nat_lt pass s.layout.passes) layout there refl on.0)
-          | inr again ↦ subst Leads (sym again) Stays
-        ]
+  module _ (fits : IsLayout l) (s : Stage) (is : IsStage l kind cycles s) where
+    clover_is : is_clover s.kind ≡ is_clover kind
+    clover_is = ap is_clover is.kind_is
 
-  pub plays_from_start : (l : Sizes) (cycles : ℕ) → IsCollector l kit.kind cycles (collector_of kit l cycles)
-  plays_from_start l cycles = plays_behind_free (λ m n. m) l kit.kind cycles (stage_at_start kit.kind l cycles) (nat_lt 0 cycles) refl refl refl (omega arith) refl refl
+    -- after Confirm a mark is sought, or the object of a job is tagged
+    to_copy_by : (b : Bool) → is_clover s.kind ≡ b → s.announcement ≡ Confirm → Plays (if b then collector.Draw (searched s 1) else to_tag (planned s) s)
+    to_copy_by true c e = let yes = sym clover_is ∙ c in plays_search s 1 is yes (drawn_first s.cycle s.marks (rw yes at (marked_at s Confirm is e)))
+    to_copy_by false c e = plays_to_tag s (planned s) is e (sym clover_is ∙ c) refl
+
+    -- after Copy the object is moved
+    work_fix : (job : MoveJob) → s.announcement ≡ Copy → planned s ≡ Some job → IsStage l kind cycles (record s { announcement = Fix })
+    work_fix job e planned_is = plays_next s Fix is (marked_fix (is_clover kind) s.cycle s.marks (marked_at s Copy is e))
+
+    -- which comes after a search that ended clear
+    copy_clear : is_clover kind ≡ true → IsMarked (is_clover kind) Copy s.cycle s.marks → s.marks.clear ≡ true
+    copy_clear clover marked = (rw clover at marked).1
+
+    to_fix_by : (job : MoveJob) (b : Bool) → is_clover s.kind ≡ b → s.announcement ≡ Copy → planned s ≡ Some job
+        → Plays (if b then collector.Source (record s { announcement = Fix }) job else move_at kit (record s { announcement = Fix }) job)
+    to_fix_by job true c e planned_is = record { stage = work_fix job e planned_is; next_is = rw (sym clover_is ∙ c) refl; job_is = planned_is; clear = λ clover. copy_clear clover (marked_at s Copy is e) }
+    to_fix_by job false c e planned_is = record { stage = work_fix job e planned_is; next_is = refl; job_is = planned_is; clear = λ clover. copy_clear clover (marked_at s Copy is e) }
+
+    plays_to_fix : (job : Option MoveJob) → s.announcement ≡ Copy → planned s ≡ job → Plays (to_fix kit job s)
+    plays_to_fix None e planned_is = plays_next s Fix is (marked_fix (is_clover kind) s.cycle s.marks (marked_at s Copy is e))
+    plays_to_fix (Some job) e planned_is = to_fix_by job (is_clover s.kind) refl e planned_is
+
+    plays_behind : (a : Announcement) → s.announcement ≡ a → Plays (behind_by kit a s)
+    plays_behind Mark e = plays_next s Confirm is (marked_confirm (is_clover kind) s.cycle s.marks (marked_at s Mark is e))
+    plays_behind Confirm e = to_copy_by (is_clover s.kind) refl e
+    plays_behind Search e = record { at = record { stage = is; search = e }; seeks = seeks_begun l s.layout (mark_word s) fits is.layout }
+    plays_behind Copy e = plays_to_fix (planned s) e refl
+    plays_behind Fix e = plays_next s Free is (marked_free (is_clover kind) s.cycle s.marks (marked_at s Fix is e))
+    plays_behind Free e = plays_behind_free s (nat_lt s.cycle s.cycles) is.layout is.kind_is is.cycles_are is.last e (marked_mark (is_clover kind) s.cycle s.marks is.first (marked_at s Free is e)) refl
+
+    plays_awaited : (pass : ℕ) (more : Bool) → 1 ≤ pass → nat_lt pass s.layout.passes ≡ more → Plays (if more then look s (pass + 1) else behind_by kit s.announcement s)
+    plays_awaited pass true least e =
+        let passes : s.layout.passes ≡ l.passes = ap (λ (t : Sizes). t.passes) is.layout in
+        record { stage = is; in_layout = (omega arith, grind (arith, nat_tests)); look = refl }
+    plays_awaited pass false least e = plays_behind s.announcement refl
+
+    plays_look : (pass found : ℕ) → IsPass l pass → Plays (fed_of kit fed (look s pass) found)
+    plays_look pass found in_layout = elim (look_tells kit fed s pass found) [
+      | inl on ↦ subst Plays (sym on.1) (plays_awaited pass (nat_lt pass s.layout.passes) in_layout.0 refl)
+      | inr again ↦ subst Plays (sym again) (record { stage = is; in_layout = in_layout; look = refl })
+    ]
+
+  -- the machine of an await is the look at its pass
+  pub await_is : (s : Stage) (pass : ℕ) (m : AwaitMachine) → IsAwait l kind cycles s pass m → collector.Await s pass m ≡ look {M = M} s pass
+  await_is s pass m is = ap (λ (x : AwaitMachine). collector.Await s pass x) is.look
+
+  -- ---- a search
+
+  module _ (s : Stage) (is : IsSearch l kind cycles s) where
+    searching : IsMarked (is_clover kind) Search s.cycle s.marks
+    searching = marked_at s Search is.stage is.search
+
+    -- only where marks are sought
+    pub seeks_marks : (b : Bool) → IsMarked b Search s.cycle s.marks → is_clover kind ≡ b → is_clover kind ≡ true
+    seeks_marks true marked e = e
+    seeks_marks false marked e = absurd marked.0
+
+    clover : is_clover kind ≡ true
+    clover = seeks_marks (is_clover kind) searching refl
+
+    pub has_drawn : HasDrawn s.cycle s.marks × (s.marks.clear ≡ false)
+    has_drawn = rw clover at searching
+
+    found_by : (more : Bool) → nat_lt s.marks.round SEARCHES ≡ more → Plays (if more then collector.Draw (searched s (s.marks.round + 1)) else collector.Announce (record s { announcement = Fix }))
+    found_by true e = plays_search s (s.marks.round + 1) is.stage clover (drawn_next s.cycle s.marks has_drawn.0 (grind (arith, nat_tests, e)))
+    found_by false e =
+        let most : SEARCHES ≤ s.marks.round = grind (arith, nat_tests, e) in
+        plays_next s Fix is.stage (rw clover (has_drawn.0, λ unclear. (let drawn = has_drawn.0 in omega (arith, most, drawn.last))))
+
+    plays_sought : (m : SeekMarkMachine) (end : Option SeekEnd) → (end ≡ None → Seeks l (mark_word s) m) → Plays (sought s m end)
+    plays_sought m None on = record { at = is; seeks = on refl }
+    plays_sought m (Some Clear) on = record {
+      layout = is.stage.layout;
+      kind_is = is.stage.kind_is;
+      cycles_are = is.stage.cycles_are;
+      first = is.stage.first;
+      last = is.stage.last;
+      marked = rw clover (let drawn = has_drawn.0 in record { first = drawn.first; last = drawn.last; some = drawn.some; few = drawn.few }, refl);
+    }
+    plays_sought m (Some (MarkFound place)) on = found_by (nat_lt s.marks.round SEARCHES) refl
+
+  -- ---- its work on a job
+
+  -- the next thing, where the regions have their words
+  targeted_by : (s : Stage) (job : MoveJob) (b : Bool) → is_clover s.kind ≡ b → IsWork l kind cycles (work_before kind) s job → Plays (if b then move_at kit s job else collector.Tag s job)
+  targeted_by s job true c is = let yes = sym (ap is_clover is.stage.kind_is) ∙ c in record { stage = is.stage; next_is = is.next_is ∙ rw yes refl; job_is = is.job_is; clear = is.clear }
+  targeted_by s job false c is = let no = sym (ap is_clover is.stage.kind_is) ∙ c in (record { stage = is.stage; next_is = is.next_is ∙ rw no refl; job_is = is.job_is; clear = is.clear }, no)
+
+  -- after a step of the move
+  plays_moved : (s : Stage) (job : MoveJob) (m : M) (end : Option MoveEnd) → IsWork l kind cycles Fix s job → Plays (moved_by kit s job m end)
+  plays_moved s job m None is = is
+  plays_moved s job m (Some end) is = is.stage
+
+  -- every word that it is fed leaves it a collector of these cycles
+  pub plays_fed : (k : CollectorMachine M) (found : ℕ) → IsLayout l → Plays k → Plays (fed_of kit fed k found)
+  plays_fed (collector.Announce s) found layout is = record { stage = is; in_layout = (omega arith, layout.passes.0); look = refl }
+  plays_fed (collector.Await s pass m) found layout is =
+      subst (λ (k : CollectorMachine M). Plays (fed_of kit fed k found)) (sym (await_is s pass m is)) (plays_look layout s is.stage pass found is.in_layout)
+  plays_fed (collector.Draw s) found layout is = is.stage
+  plays_fed (collector.Seek s m) found layout is = plays_sought s is.at (seeks.fed_of m found) (seeks.end_of (seeks.fed_of m found)) (λ on. seeks_on l (mark_word s) m found is.seeks on)
+  plays_fed (collector.Source s job) found layout is = is
+  plays_fed (collector.Target s job) found layout is = targeted_by s job (is_clover s.kind) refl is
+  plays_fed (collector.Tag s job) found layout is = is.0.stage
+  plays_fed (collector.Move s job m) found layout is = plays_moved s job (fed m found) (kit.move_ended (fed m found)) is
+  plays_fed (collector.Done s) found layout is = is
+
+-- nothing is drawn at the start
+start_marked : (clover : Bool) (kind : Kind) (l : Sizes) (cycles salt : ℕ) → IsMarked clover Mark 1 (let s = stage_at_start kind l cycles salt in s.marks)
+start_marked true kind l cycles salt = omega arith
+start_marked false kind l cycles salt = (tt, refl, refl)
+
+pub plays_from_start : {R W E M : Type 0} (kit : Kit R W E M) (l : Sizes) (cycles salt : ℕ) → IsCollector l kit.kind cycles (collector_of kit l cycles salt)
+plays_from_start kit l cycles salt =
+    plays_behind_free kit (λ m n. m) l kit.kind cycles (stage_at_start kit.kind l cycles salt) (nat_lt 0 cycles) refl refl refl (omega arith) refl (start_marked (is_clover kit.kind) kit.kind l cycles salt) refl

@@ -1,58 +1,107 @@
--- What is announced is a phase word, and who has answered it fits the cycle.
-use Rattle.std.specs.Prelude.{IsSome}
-use Rattle.std.proofs.Common.{◌≡◌, ◌≢◌, ℕ, ◌^◌, ◌<◌, ◌≤◌, ◌⊎◌, inl, inr, Option, None, refl, sym, ap, ◌∙◌, subst, arith}
-use Rattle.heap_words.specs.Layouts.{Sizes, IsPass}
+-- The stages of a collector: the phase word of each, where it stands in its cycle, and the one before it.
+use Rattle.std.specs.Prelude.{IsSome, ◌&&◌, not, if◌then◌else◌}
+use Rattle.std.proofs.Common.{◌≡◌, ◌≢◌, ℕ, ◌-◌, ◌^◌, ◌<◌, ◌≤◌, ◌==◌, Bool, true, false, Option, refl, sym, ap, ◌∙◌, subst, arith}
+use Rattle.std.proofs.lemmas.Bool.{eqb-false}
+use Rattle.std.proofs.lemmas.Bool.Decides.{nat_tests}
+use Rattle.heap_words.specs.Layouts.{Sizes}
 use Rattle.object_headers.specs.declared.change.Kind.{Kind}
+use Rattle.object_headers.specs.Changes.{is_clover}
+use Rattle.handshakes.specs.declared.phase_word.Phase.TheVariants as phases
 use Rattle.handshakes.specs.declared.phase_word.PhaseWord.{PhaseWord}
-use Rattle.handshakes.specs.PhaseWords.{phase_word_of, retired_word}
+use Rattle.handshakes.specs.PhaseWords.{IsPhaseWord, phase_word_of, phase_word_at}
 use Rattle.handshakes.specs.PhaseWordLaws.{phase_word_of-word_of_phase, phase_word_at-word_of_phase}
-use Rattle.handshakes.specs.Handshakes.{Answers}
-use Rattle.barriers.specs.Stances.{Stance, stance_at, stance_of}
+use Rattle.barriers.specs.Stances.{Stance, stance_at, stance_in, stance_of, is_last}
 use Rattle.barriers.specs.Stances as stances
-use Rattle.barriers.specs.Cycles.{Nobody, Side, ToldFits, own_at}
-use Rattle.lawful_records.specs.declared.collector.Announcement.{Announcement}
-use Rattle.lawful_records.specs.declared.collector.Announcement.TheVariants.{Mark, Confirm, Copy, Fix, Free}
-use Rattle.lawful_records.specs.declared.collector.Stage.{Stage}
-use Rattle.lawful_records.specs.declared.collector.CollectorMachine.{CollectorMachine}
-use Rattle.lawful_records.specs.declared.collector.CollectorMachine.TheVariants as collector
-use Rattle.lawful_records.specs.Collectors.{said_in, said_of, word_of, before_by, stage_before, stage_of}
-use Rattle.lawful_records.specs.Cycling.{announced_by, cycle_of, told_by, told_before, told_awaiting}
-use Rattle.lawful_records.specs.Handshakes.{IsStage, IsCollector}
-use Rattle.lawful_records.specs.PassTurns.{IsAnnounced}
-use Rattle.lawful_records.proofs.CollectorLaws.{runs, fits}
+use Rattle.lawful_records.specs.declared.stage.Announcement.{Announcement}
+use Rattle.lawful_records.specs.declared.stage.Announcement.TheVariants.{Mark, Confirm, Search, Copy, Fix, Free}
+use Rattle.lawful_records.specs.declared.stage.Marks.{Marks}
+use Rattle.lawful_records.specs.declared.stage.Stage.{Stage}
+use Rattle.lawful_records.specs.Collectors.{phase_of, round_by, round_of, said_of, word_of, is_refused, before_by, stage_before}
+use Rattle.lawful_records.specs.Handshakes.{IsMarked, IsStage}
+use Rattle.lawful_records.proofs.CollectorLaws.{fits}
+
+-- ---- one stage
+
+-- the number of a search is that of one of the eight
+abbrev pub RoundFits : Announcement → ℕ → Type 0
+RoundFits Search round = (1 ≤ round) × (round ≤ 8)
+RoundFits a round = Unit {0}
+
+-- a stage whose word says where it stands
+pub record IsSaid (s : Stage) : Type 0 where
+  pub small : s.cycle ≤ 64
+  pub round : RoundFits s.announcement s.marks.round
 
 -- the stance of an announcement
-abbrev stance_by : Announcement → Stance
+abbrev pub stance_by : Announcement → Stance
 stance_by Mark = stances.Mark
 stance_by Confirm = stances.Confirm
+stance_by Search = stances.Search
 stance_by Copy = stances.Copy
 stance_by Fix = stances.Fix
 stance_by Free = stances.Free
 
-stance_said : (a : Announcement) (cycle : ℕ) → stance_of (said_in a cycle) ≡ stance_by a
-stance_said Mark cycle = refl
-stance_said Confirm cycle = refl
-stance_said Copy cycle = refl
-stance_said Fix cycle = refl
-stance_said Free cycle = refl
+not_last : (round : ℕ) → 1 ≤ round → round ≤ 8 → is_last round ≡ false
+not_last round first last = grind (arith, nat_tests, first, last)
 
-stance_word : (s : Stage) → s.cycle < 2 ^ 32 → stance_at (word_of s) ≡ stance_by s.announcement
-stance_word s small = ap stance_of (phase_word_at-word_of_phase (said_of s) (fits s.announcement s.cycle small)) ∙ stance_said s.announcement s.cycle
+search_stance : (last : Bool) → last ≡ false → (if last then stances.Copy else stances.Search) ≡ stances.Search
+search_stance last is = rw is refl
 
-phase_word : (s : Stage) → s.cycle < 2 ^ 32 → IsSome (phase_word_of (word_of s))
-phase_word s small = subst (λ (w : Option PhaseWord). IsSome w) (sym (phase_word_of-word_of_phase (said_of s) (fits s.announcement s.cycle small))) refl
+copy_stance : (clover : Bool) → (let last = is_last (if clover then 9 else 0) in if last then stances.Copy else stances.Search) ≡ stances.Copy
+copy_stance true = refl
+copy_stance false = refl
 
--- the announcement before another
-abbrev ahead : Announcement → Announcement
-ahead Mark = Free
-ahead Confirm = Mark
-ahead Copy = Confirm
-ahead Fix = Copy
-ahead Free = Fix
+stance_said : (a : Announcement) (kind : Kind) (round : ℕ) → RoundFits a round → stance_in (phase_of a) (round_by a kind round) ≡ stance_by a
+stance_said Mark kind round in_round = refl
+stance_said Confirm kind round in_round = refl
+stance_said Search kind round in_round = search_stance (is_last round) (not_last round in_round.0 in_round.1)
+stance_said Copy kind round in_round = copy_stance (is_clover kind)
+stance_said Fix kind round in_round = refl
+stance_said Free kind round in_round = refl
 
-ahead_is : (a : Announcement) (s : Stage) → (let b = before_by a s in b.announcement) ≡ ahead a
+copy_round : (clover : Bool) → (if clover then 9 else 0) < 2 ^ 24
+copy_round true = omega arith
+copy_round false = omega arith
+
+small_round : (a : Announcement) (kind : Kind) (round : ℕ) → RoundFits a round → round_by a kind round < 2 ^ 24
+small_round Mark kind round in_round = omega arith
+small_round Confirm kind round in_round = omega arith
+small_round Search kind round in_round = omega (arith, in_round.1)
+small_round Copy kind round in_round = copy_round (is_clover kind)
+small_round Fix kind round in_round = omega arith
+small_round Free kind round in_round = omega arith
+
+module _ (s : Stage) (is : IsSaid s) where
+  said_fits : IsPhaseWord (said_of s)
+  said_fits = fits s.announcement s.cycle (round_of s) (omega (arith, is.small)) (small_round s.announcement s.kind s.marks.round is.round)
+
+  pub said_at : phase_word_at (word_of s) ≡ said_of s
+  said_at = phase_word_at-word_of_phase (said_of s) said_fits
+
+  pub stance_word : stance_at (word_of s) ≡ stance_by s.announcement
+  stance_word = ap stance_of said_at ∙ stance_said s.announcement s.kind s.marks.round is.round
+
+  pub phase_word : IsSome (phase_word_of (word_of s))
+  phase_word = subst (λ (w : Option PhaseWord). IsSome w) (sym (phase_word_of-word_of_phase (said_of s) said_fits)) refl
+
+-- ---- the one before it
+
+-- by whether it is the first search, whether marks are sought, and whether the cycle's was refused
+abbrev pub ahead : Announcement → Bool → Bool → Bool → Announcement
+ahead Mark first clover refused = Free
+ahead Confirm first clover refused = Mark
+ahead Search first clover refused = if first then Confirm else Search
+ahead Copy first clover refused = if clover then Search else Confirm
+ahead Fix first clover refused = if refused then Search else Copy
+ahead Free first clover refused = Fix
+
+abbrev pub ahead_of : Stage → Announcement
+ahead_of s = ahead s.announcement (s.marks.round == 1) (is_clover s.kind) (is_refused s)
+
+pub ahead_is : (a : Announcement) (s : Stage) → (let b = before_by a s in b.announcement) ≡ ahead a (s.marks.round == 1) (is_clover s.kind) (is_refused s)
 ahead_is Mark s = refl
 ahead_is Confirm s = refl
+ahead_is Search s = refl
 ahead_is Copy s = refl
 ahead_is Fix s = refl
 ahead_is Free s = refl
@@ -60,96 +109,89 @@ ahead_is Free s = refl
 ahead_cycle : (a : Announcement) (s : Stage) (n : ℕ) → s.cycle ≤ n → (let b = before_by a s in b.cycle) ≤ n
 ahead_cycle Mark s n few = omega (arith, few)
 ahead_cycle Confirm s n few = few
+ahead_cycle Search s n few = few
 ahead_cycle Copy s n few = few
 ahead_cycle Fix s n few = few
 ahead_cycle Free s n few = few
 
--- ---- who has acknowledged the last Copy word
+-- the round of a stage of a collector
+round_marked : (clover : Bool) (a : Announcement) (cycle : ℕ) (m : Marks) → IsMarked clover a cycle m → RoundFits a m.round
+round_marked true Mark cycle m is = tt
+round_marked true Confirm cycle m is = tt
+round_marked true Search cycle m is = let drawn = is.0 in (drawn.first, drawn.last)
+round_marked true Copy cycle m is = tt
+round_marked true Fix cycle m is = tt
+round_marked true Free cycle m is = tt
+round_marked false Search cycle m is = absurd is.0
+round_marked false Mark cycle m is = tt
+round_marked false Confirm cycle m is = tt
+round_marked false Copy cycle m is = tt
+round_marked false Fix cycle m is = tt
+round_marked false Free cycle m is = tt
 
--- while an announcement is awaited, all have acknowledged it or the one before
-awaiting_fits : (a b : Announcement) → (b ≡ a) ⊎ (b ≡ ahead a) → ToldFits (told_awaiting a) (stance_by b)
-awaiting_fits Mark b is = elim is [ inl e ↦ rw e (λ told. told) | inr e ↦ rw e (λ told. told) ]
-awaiting_fits Confirm b is = elim is [ inl e ↦ rw e (λ told. told) | inr e ↦ rw e (λ told. told) ]
-awaiting_fits Copy b is = tt
-awaiting_fits Fix b is = elim is [ inl e ↦ rw e tt | inr e ↦ rw e tt ]
-awaiting_fits Free b is = tt
+search_before : (round : ℕ) → 1 ≤ round → round ≤ 8 → (first : Bool) → (round == 1) ≡ first → RoundFits (if first then Confirm else Search) (round - 1)
+search_before round low high true is = tt
+search_before round low high false is = let other = eqb-false round 1 is in (omega (arith, low, other), omega (arith, high))
 
--- before the next is announced, all have acknowledged the one before it
-before_fits : (a : Announcement) → ToldFits (told_before a) (stance_by (ahead a))
-before_fits Mark = λ told. told
-before_fits Confirm = λ told. told
-before_fits Copy = λ told. told
-before_fits Fix = tt
-before_fits Free = tt
+copy_before : (cycle : ℕ) (m : Marks) (clover : Bool) → IsMarked clover Copy cycle m → RoundFits (if clover then Search else Confirm) m.round
+copy_before cycle m true is = let drawn = is.0 in (drawn.first, drawn.last)
+copy_before cycle m false is = tt
 
--- with no mark drawn no pass has one
-pub none_own : (acked : Stance) → own_at acked None ≡ None
-none_own stances.Mark = refl
-none_own stances.Confirm = refl
-none_own stances.Search = refl
-none_own stances.Copy = refl
-none_own stances.Fix = refl
-none_own stances.Free = refl
-none_own stances.Retired = refl
+fix_before : (cycle : ℕ) (m : Marks) (clover : Bool) → IsMarked clover Fix cycle m → (refused : Bool) → (clover && not m.clear) ≡ refused → RoundFits (if refused then Search else Copy) m.round
+fix_before cycle m true is true e = let drawn = is.0 in (drawn.first, drawn.last)
+fix_before cycle m true is false e = tt
+fix_before cycle m false is true e = absurd (cc e)
+fix_before cycle m false is false e = tt
 
--- ---- each collector
+before_round : (a : Announcement) (s : Stage) → IsMarked (is_clover s.kind) a s.cycle s.marks → RoundFits (let b = before_by a s in b.announcement) (let b = before_by a s in b.marks.round)
+before_round Mark s is = tt
+before_round Confirm s is = tt
+before_round Search s is = let in_round = round_marked (is_clover s.kind) Search s.cycle s.marks is in search_before s.marks.round in_round.0 in_round.1 (s.marks.round == 1) refl
+before_round Copy s is = copy_before s.cycle s.marks (is_clover s.kind) is
+before_round Fix s is = fix_before s.cycle s.marks (is_clover s.kind) is (is_refused s) refl
+before_round Free s is = tt
 
-module _ (l : Sizes) (kind : Kind) (cycles : ℕ) (few : cycles ≤ 64) where
-  -- the stage that is announced is of a small cycle
-  before_small : (s : Stage) → IsStage l kind cycles s → (let b = stage_before s in b.cycle) ≤ 64
-  before_small s is = ahead_cycle s.announcement s 64 (omega (arith, few, is.last))
+module _ (l : Sizes) (kind : Kind) (cycles : ℕ) (few : cycles ≤ 64) (s : Stage) (is : IsStage l kind cycles s) where
+  pub marked_as : IsMarked (is_clover s.kind) s.announcement s.cycle s.marks
+  marked_as = subst (λ (k : Kind). IsMarked (is_clover k) s.announcement s.cycle s.marks) (sym is.kind_is) is.marked
 
-  -- an answer that is the announced word, or that of the stage before
-  awaited_told : (s : Stage) (side : Side) (word : ℕ) → s.cycle ≤ 64 → side.acked ≡ stance_at word → (word ≡ word_of s) ⊎ (word ≡ word_of (stage_before s)) → ToldFits (told_awaiting s.announcement) side.acked
-  awaited_told s side word small acked is = elim is [
-    | inl e ↦ subst (ToldFits (told_awaiting s.announcement)) (sym (acked ∙ ap stance_at e ∙ stance_word s (omega (arith, small)))) (awaiting_fits s.announcement s.announcement (inl refl))
-    | inr e ↦
-        subst (ToldFits (told_awaiting s.announcement)) (sym (acked ∙ ap stance_at e ∙ stance_word (stage_before s) (omega (arith, ahead_cycle s.announcement s 64 small))))
-        (awaiting_fits s.announcement (let b = stage_before s in b.announcement) (inr (ahead_is s.announcement s)))
-  ]
+  pub stage_said : IsSaid s
+  stage_said = record { small = omega (arith, few, is.last); round = round_marked (is_clover s.kind) s.announcement s.cycle s.marks marked_as }
 
-  -- before the next stage is announced, all have answered the one before it
-  before_told : (s : Stage) → IsStage l kind cycles s → (side : Side) (word : ℕ) → IsPass l side.pass → Answers (record { word = word_of (stage_before s); before = word_of (stage_before (stage_before s)); passed = s.layout.passes }) side.pass word → word ≢ retired_word → side.acked ≡ stance_at word → ToldFits (told_before s.announcement) side.acked
-  before_told s is side word there answers runs acked =
-      let passes : s.layout.passes ≡ l.passes = ap (λ (t : Sizes). t.passes) is.layout in
-      let is_word : word ≡ word_of (stage_before s) = elim answers [ inl ended ↦ absurd (runs ended) | inr rest ↦ elim rest [ inl same ↦ same | inr waits ↦ absurd (omega (arith, passes, waits.1, there.1)) ] ] in
-      let stance : side.acked ≡ stance_by (ahead s.announcement) =
-      acked ∙ ap stance_at is_word ∙ stance_word (stage_before s) (omega (arith, before_small s is)) ∙ ap stance_by (ahead_is s.announcement s) in
-      subst (ToldFits (told_before s.announcement)) (sym stance) (before_fits s.announcement)
+  pub before_said : IsSaid (stage_before s)
+  before_said = record { small = ahead_cycle s.announcement s 64 (omega (arith, few, is.last)); round = before_round s.announcement s marked_as }
 
-module _ {M : Type 0} (l : Sizes) (kind : Kind) (cycles : ℕ) (few : cycles ≤ 64) where
-  stage_small : (k : CollectorMachine M) → IsCollector l kind cycles k → (let s = stage_of k in s.cycle) ≤ 64
-  stage_small (collector.Announce s) is = before_small l kind cycles few s is
-  stage_small (collector.Await s pass m) is = omega (arith, few, is.stage.last)
-  stage_small (collector.Source s job) is = before_small l kind cycles few s is.stage
-  stage_small (collector.Target s job) is = before_small l kind cycles few s is.stage
-  stage_small (collector.Tag s job) is = before_small l kind cycles few s is.stage
-  stage_small (collector.Move s job m) is = before_small l kind cycles few s is.stage
-  stage_small (collector.Done s) is = omega (arith, few, is.last)
+-- ---- no two that follow one another are alike
 
-  told_shaken : (k : CollectorMachine M) → IsCollector l kind cycles k → (side : Side) (word : ℕ) → IsPass l side.pass → Answers (announced_by k) side.pass word → word ≢ retired_word → side.acked ≡ stance_at word → ToldFits (told_by k) side.acked
-  told_shaken (collector.Announce s) is side word there answers runs acked = before_told l kind cycles few s is side word there answers runs acked
-  told_shaken (collector.Source s job) is side word there answers runs acked = before_told l kind cycles few s is.stage side word there answers runs acked
-  told_shaken (collector.Target s job) is side word there answers runs acked = before_told l kind cycles few s is.stage side word there answers runs acked
-  told_shaken (collector.Tag s job) is side word there answers runs acked = before_told l kind cycles few s is.stage side word there answers runs acked
-  told_shaken (collector.Move s job m) is side word there answers runs acked = before_told l kind cycles few s is.stage side word there answers runs acked
-  told_shaken (collector.Await s pass m) is side word there answers runs acked =
-      awaited_told l kind cycles few s side word (omega (arith, few, is.stage.last)) acked (elim answers [ inl ended ↦ absurd (runs ended) | inr rest ↦ elim rest [ inl same ↦ inl same | inr waits ↦ inr waits.0 ] ])
-  told_shaken (collector.Done s) is side word there answers runs acked =
-      let passes : s.layout.passes ≡ l.passes = ap (λ (t : Sizes). t.passes) is.layout in
-      let is_word : word ≡ word_of s = elim answers [ inl ended ↦ absurd (runs ended) | inr rest ↦ elim rest [ inl same ↦ same | inr waits ↦ absurd (omega (arith, passes, waits.1, there.1)) ] ] in
-      let stance : side.acked ≡ stances.Free = acked ∙ ap stance_at is_word ∙ stance_word s (omega (arith, few, is.last)) ∙ ap stance_by is.free in
-      subst (ToldFits Nobody) (sym stance) (λ told. told)
+phase_same : (v w : PhaseWord) → v ≡ w → v.phase ≡ w.phase
+phase_same v w same = ap (λ (x : PhaseWord). x.phase) same
 
-  -- what a collector has announced is as passes need it
-  pub announced_is : (k : CollectorMachine M) → IsCollector l kind cycles k → IsAnnounced l (announced_by k) (cycle_of k)
-  announced_is k is = record {
-    runs = let s = stage_of k in runs s.announcement s.cycle;
-    phase = phase_word (stage_of k) (omega (arith, stage_small k is));
-    stance = refl;
-    shaken = λ side word there answers running acked own. record {
-      told = told_shaken k is side word there answers running acked;
-      own = own ∙ sym (none_own side.acked);
-      clear = λ clear. absurd (cc clear);
-    };
-  }
+round_same : (v w : PhaseWord) → v ≡ w → v.round ≡ w.round
+round_same v w same = ap (λ (x : PhaseWord). x.round) same
+
+-- a search and the announcement before it, by whether it is the first
+search_differs : (kind : Kind) (round : ℕ) (first : Bool) → 1 ≤ round → phase_of (if first then Confirm else Search) ≡ phases.Copy → round_by (if first then Confirm else Search) kind (round - 1) ≡ round → ⊥
+search_differs kind round true low phase same = cc phase
+search_differs kind round false low phase same = omega (arith, same, low)
+
+-- Copy and the announcement before it
+copy_differs : (kind : Kind) (round : ℕ) (clover : Bool) → is_clover kind ≡ clover → RoundFits (if clover then Search else Confirm) round → phase_of (if clover then Search else Confirm) ≡ phases.Copy → round_by (if clover then Search else Confirm) kind round ≡ (if clover then 9 else 0) → ⊥
+copy_differs kind round true e fits phase same = omega (arith, same, fits.1)
+copy_differs kind round false e fits phase same = cc phase
+
+fix_differs : (refused : Bool) → phase_of (if refused then Search else Copy) ≡ phases.Fix → ⊥
+fix_differs true phase = cc phase
+fix_differs false phase = cc phase
+
+differs_by : (a : Announcement) (s : Stage) → RoundFits a s.marks.round → RoundFits (let b = before_by a s in b.announcement) (let b = before_by a s in b.marks.round) → said_of (before_by a s) ≡ said_of (record s { announcement = a }) → ⊥
+differs_by Mark s fits before same = cc (phase_same _ _ same)
+differs_by Confirm s fits before same = cc (phase_same _ _ same)
+differs_by Search s fits before same = search_differs s.kind s.marks.round (s.marks.round == 1) fits.0 (phase_same _ _ same) (round_same _ _ same)
+differs_by Copy s fits before same = copy_differs s.kind s.marks.round (is_clover s.kind) refl before (phase_same _ _ same) (round_same _ _ same)
+differs_by Fix s fits before same = fix_differs (is_refused s) (phase_same _ _ same)
+differs_by Free s fits before same = cc (phase_same _ _ same)
+
+pub differs : (s : Stage) → IsSaid s → IsSaid (stage_before s) → word_of (stage_before s) ≢ word_of s
+differs s is before same =
+    let said : said_of (stage_before s) ≡ said_of s = sym (said_at (stage_before s) before) ∙ ap phase_word_at same ∙ said_at s is in
+    differs_by s.announcement s is.round before.round said

@@ -3,7 +3,7 @@ use Rattle.std.specs.Prelude.{◌≢◌}
 use Rattle.std.specs.List.{All}
 use Rattle.std.proofs.Common.{◌≡◌, ℕ, List, get_or, refl, sym, ◌∙◌}
 use Rattle.heap_words.specs.Layouts.{Sizes}
-use Rattle.handshakes.specs.Handshakes.{Announced, Answers}
+use Rattle.handshakes.specs.Handshakes.{Announced, Answers, AnswersWith}
 use Rattle.handshakes.specs.PhaseWords.{retired_word}
 use Rattle.handshakes.specs.Polling.{Polled, IsRunning}
 use Rattle.handshakes.specs.PollingLaws.{poll_hears}
@@ -20,7 +20,7 @@ use Rattle.barriers.specs.declared.pass.PassMachine.{PassMachine}
 use Rattle.barriers.specs.declared.pass.PassMachine.TheVariants as machine
 use Rattle.lawful_records.specs.Cycling.{announced_by, cycle_of}
 use Rattle.lawful_records.specs.LawfulRecords.{IsMoved, IsPollIn, IsAcked, IsMachine, IsPassRecord, IsParty}
-use Rattle.lawful_records.specs.Records.{view_by, number_of, acked_of, side_of}
+use Rattle.lawful_records.specs.Records.{view_by, number_of, acked_of, mark_of, side_of}
 use Rattle.lawful_records.specs.declared.collector.CollectorMachine.{CollectorMachine}
 use Rattle.lawful_records.specs.declared.records.PassKnown.{PassKnown}
 use Rattle.lawful_records.specs.declared.records.Party.{Party}
@@ -41,6 +41,7 @@ module _ {R W E M : Type 0} (kit : Kit R W E M) where
     pub side : IsSide kit.protocol d s (side_of kit p)
     pub call : (k : Known) → IsCall kit.protocol c s (side_of kit p) k → IsCall kit.protocol d s (side_of kit p) k
     pub answers : Answers b (number_of p) (acked_of p)
+    pub marked : AnswersWith b (number_of p) (acked_of p) (mark_of p)
     pub shaken : acked_of p ≢ retired_word → Handshaken d (side_of kit p)
     -- nothing new is announced to a running pass that has not acknowledged what was
     pub waits : acked_of p ≢ retired_word → acked_of p ≢ n.phase → (o.phase ≡ n.phase) × (o.mark ≡ n.mark)
@@ -86,7 +87,7 @@ module _ {R W E M : Type 0} (kit : Kit R W E M) where
       answers = hears.answers;
       phase = is.answering.phase;
       retired = is.answering.retired;
-      unmarked = is.answering.unmarked;
+      marked = hears.marked;
     };
     shaken = hears.shaken;
     eight = is.eight;

@@ -1,6 +1,6 @@
 -- The cycle's job stands where it does under the turns of passes.
 use Rattle.std.specs.Prelude.{◌<◌}
-use Rattle.std.proofs.Common.{◌≡◌, ◌≢◌, ℕ, ◌+◌, refl, sym, ap, ◌∙◌, subst, arith}
+use Rattle.std.proofs.Common.{◌≡◌, ℕ, ◌+◌, refl, sym, ap, ◌∙◌, subst, arith}
 use Rattle.heap_words.specs.Layouts.{Sizes}
 use Rattle.object_headers.specs.declared.header.Colour.{Colour}
 use Rattle.object_headers.specs.declared.header.State.TheVariants as states
@@ -31,6 +31,7 @@ head_same s at = record { state = refl; seal = refl; wide = refl; head = λ ther
 pub leaves_same : (P : Protocol) (l : Sizes) (c : Cycle) (s : Space) → Leaves P l c s s
 leaves_same P l c s = record {
   left = λ at. Same (head_same s at);
+  address = λ at. refl;
   pool = λ region low. record { word = refl; ends = refl };
   moves = λ m j job absent is. is;
 }
@@ -64,6 +65,7 @@ module _ (P : Protocol) (c : Cycle) (s : Space) (k : ℕ) (x : RegionWord) where
   pub leaves_region : (l : Sizes) → (l.pool < k + 1) → Leaves P l c s (put_region s k x)
   leaves_region l own = record {
     left = λ at. Same (record { state = refl; seal = refl; wide = refl; head = λ is. (refl, refl, refl) });
+    address = λ at. refl;
     pool = λ region low. record { word = set_else s.region k region x (λ same. omega (arith, same, low, own)); ends = refl };
     moves = λ m j job absent is. move_region m j is;
   }
@@ -72,35 +74,31 @@ module _ (P : Protocol) (c : Cycle) (s : Space) (k : ℕ) (x : RegionWord) where
 
 module _ {R W E M : Type 0} (kit : Kit R W E M) (l : Sizes) (c : Cycle) (s t : Space) (leaves : Leaves kit.protocol l c s t) (heads : (at : ℕ) → IsLive (s.state at) → IsSameAt s t at) where
   -- no object begins in the pool
-  pool_wide : (at : ℕ) → region_of l at < l.pool → Left kit.protocol l s t at → t.wide at ≡ s.wide at
-  pool_wide at low (Same same) = same.wide
-  pool_wide at low (Untagged makes was is seal wide) = wide
-  pool_wide at low (Born was is seal own) = absurd (omega (arith, low, own))
-
   pool_absent : (at : ℕ) → region_of l at < l.pool → Left kit.protocol l s t at → s.state at ≡ Absent → t.state at ≡ Absent
   pool_absent at low (Same same) none = same.state ∙ none
   pool_absent at low (Untagged makes was is seal wide) none = absurd (let gone : Tagged ≡ Absent = sym was ∙ none in cc gone)
-  pool_absent at low (Born was is seal own) none = absurd (omega (arith, low, own))
+  pool_absent at low (Born was is seal wide own) none = absurd (omega (arith, low, own))
 
-  live_wide : (at : ℕ) → s.state at ≢ Absent → Left kit.protocol l s t at → t.wide at ≡ s.wide at
-  live_wide at there (Same same) = same.wide
-  live_wide at there (Untagged makes was is seal wide) = wide
-  live_wide at there (Born was is seal own) = absurd (there was)
+  -- none begins with a wide object
+  wideless_stays : (at : ℕ) → Left kit.protocol l s t at → s.wide at ≡ 0 → t.wide at ≡ 0
+  wideless_stays at (Same same) none = same.wide ∙ none
+  wideless_stays at (Untagged makes was is seal wide) none = wide ∙ none
+  wideless_stays at (Born was is seal wide own) none = wide
 
   plain_stays : (at : ℕ) → Left kit.protocol l s t at → s.state at ≡ Plain → t.state at ≡ Plain
   plain_stays at (Same same) plain = same.state ∙ plain
   plain_stays at (Untagged makes was is seal wide) plain = absurd (let gone : Tagged ≡ Plain = sym was ∙ plain in cc gone)
-  plain_stays at (Born was is seal own) plain = is
+  plain_stays at (Born was is seal wide own) plain = is
 
   tagged_stays : (at : ℕ) → Left kit.protocol l s t at → IsTaggedOrKept (s.state at) → IsTaggedOrKept (t.state at)
   tagged_stays at (Same same) tagged = subst IsTaggedOrKept (sym same.state) tagged
   tagged_stays at (Untagged makes was is seal wide) tagged = subst IsTaggedOrKept (sym is) tt
-  tagged_stays at (Born was is seal own) tagged = absurd (subst IsTaggedOrKept was tagged)
+  tagged_stays at (Born was is seal wide own) tagged = absurd (subst IsTaggedOrKept was tagged)
 
   none_forward : (at : ℕ) → Left kit.protocol l s t at → (IsForward (s.state at) → ⊥) → IsForward (t.state at) → ⊥
   none_forward at (Same same) none forward = none (subst IsForward same.state forward)
   none_forward at (Untagged makes was is seal wide) none forward = subst IsForward is forward
-  none_forward at (Born was is seal own) none forward = subst IsForward is forward
+  none_forward at (Born was is seal wide own) none forward = subst IsForward is forward
 
   plain_live : (x : State) → x ≡ Plain → IsLive x
   plain_live x is = subst IsLive (sym is) tt
@@ -110,9 +108,6 @@ module _ {R W E M : Type 0} (kit : Kit R W E M) (l : Sizes) (c : Cycle) (s t : S
   tagged_live Kept is = tt
   tagged_live x is = absurd is
 
-  live_there : (x : State) → IsLive x → x ≢ Absent
-  live_there x live none = subst IsLive none live
-
   unmoved_stays : (j : MoveJob) → IsLive (s.state j.from) → IsUnmoved l s j → IsUnmoved l t j
   unmoved_stays j live is =
       let same = heads j.from live in
@@ -120,13 +115,14 @@ module _ {R W E M : Type 0} (kit : Kit R W E M) (l : Sizes) (c : Cycle) (s t : S
       record {
         pool = is.pool;
         room = is.room;
-        flat = is.flat;
+        wide = is.wide;
         len = same.len ∙ is.len;
         birth = same.birth ∙ is.birth;
         header = is.header ∙ ap word_of_header (sym head);
         place = (leaves.pool (region_of l j.to) is.pool).ends ∙ is.place;
         none = λ a. none_forward a (leaves.left a) (is.none a);
-        narrow = (live_wide j.from (live_there (s.state j.from) live) (leaves.left j.from) ∙ is.narrow.0, pool_wide j.to is.pool (leaves.left j.to) ∙ is.narrow.1);
+        wideless = λ a. wideless_stays a (leaves.left a) (is.wideless a);
+        address = leaves.address j.from ∙ is.address;
       }
 
   target_stays : (j : MoveJob) → region_of l j.to < l.pool → IsTarget l s j → IsTarget l t j
@@ -134,7 +130,7 @@ module _ {R W E M : Type 0} (kit : Kit R W E M) (l : Sizes) (c : Cycle) (s t : S
 
   mover_stays : (j : MoveJob) (m : M) → IsMover kit l c s j m → IsMover kit l c t j m
   mover_stays j m is = record {
-    kind = is.kind;
+    moves = is.moves;
     pool = is.pool;
     job = is.job;
     own = is.own;

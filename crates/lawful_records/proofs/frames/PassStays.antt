@@ -14,9 +14,10 @@ use Rattle.lawful_records.specs.Collectors.{AreEarlier}
 use Rattle.lawful_records.specs.Cycling.{cycle_of}
 use Rattle.lawful_records.specs.Frames.{Grows, SeenBy, Leaves, Beside}
 use Rattle.lawful_records.specs.JobStands.{stand_of}
+use Rattle.lawful_records.specs.Searches.{SearchStands}
 use Rattle.lawful_records.specs.LawfulRecords.{IsPassRecord, IsCollectorRecord}
 use Rattle.lawful_records.specs.Records.{number_of, side_of, registers_by, room_by, made_by}
-use Rattle.lawful_records.specs.declared.collector.Awaited.{Awaited}
+use Rattle.lawful_records.specs.declared.awaited.Awaited.{Awaited}
 use Rattle.lawful_records.specs.declared.collector.CollectorMachine.{CollectorMachine}
 use Rattle.lawful_records.specs.declared.records.PassKnown.{PassKnown}
 use Rattle.lawful_records.specs.declared.records.CollectorKnown.{CollectorKnown}
@@ -45,13 +46,14 @@ earlier_later few more h less are = record {
 }
 
 module _ {R W E M : Type 0} (kit : Kit R W E M) where
-  pub collector_stays : (l : Sizes) (k : CollectorMachine M) (m : ℕ) (s t : Space) (n o : Notices) (q : CollectorKnown M) → Rows l t.state t.len t.ends t.region → Beside kit l (cycle_of k) m s t n o → Leaves kit.protocol l (cycle_of k) s t → IsCollectorRecord kit l k s q → IsCollectorRecord kit l k t q
-  collector_stays l k m s t n o q rows beside leaves is = record {
+  pub collector_stays : (l : Sizes) (k : CollectorMachine M) (m : ℕ) (s t : Space) (n o : Notices) (q : CollectorKnown M) → Rows l t.state t.len t.ends t.region → Beside kit l (cycle_of k) m s t n o → Leaves kit.protocol l (cycle_of k) s t → (SearchStands l (cycle_of k) s k → SearchStands l (cycle_of k) t k) → IsCollectorRecord kit l k s q → IsCollectorRecord kit l k t q
+  collector_stays l k m s t n o q rows beside leaves search is = record {
     machine = is.machine;
     cycles = is.cycles;
     few = is.few;
     collects = is.collects;
     job = stand_stays kit l (cycle_of k) s t leaves beside.seen.heads (stand_of k) is.job;
+    search = search is.search;
     awaited = earlier_later (length s.history) (length t.history) q.awaited (grows_length m s.history t.history beside.history) is.awaited;
     sealed = sealed_stays kit.protocol l s t rows leaves.left beside.seen.heads q.sealed is.sealed;
     only = is.only;
@@ -80,7 +82,7 @@ module _ {R W E M : Type 0} (kit : Kit R W E M) where
       answers = is.answering.answers;
       phase = is.answering.phase;
       retired = is.answering.retired;
-      unmarked = is.answering.unmarked;
+      marked = is.answering.marked;
     };
     shaken = is.shaken;
     eight = is.eight;

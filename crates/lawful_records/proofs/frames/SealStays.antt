@@ -18,10 +18,10 @@ use Rattle.lawful_records.specs.Turns.{has_word, seal_in}
 use Rattle.lawful_records.specs.declared.records.Sealed.{Sealed}
 
 -- nothing that is on its way by a mark comes of a turn of a pass
-pub rests_on : (P : Protocol) (l : Sizes) (s t : Space) (at : ℕ) → Left P l s t at → (IsMoving (s.state at) → ⊥) → IsMoving (t.state at) → ⊥
-rests_on P l s t at (Same same) rests moving = rests (rw same.state at moving)
-rests_on P l s t at (Untagged makes was is seal wide) rests moving = rw is at moving
-rests_on P l s t at (Born was is seal own) rests moving = rw is at moving
+pub rests_on : (P : Protocol) (l : Sizes) (s t : Space) (at : ℕ) (Q : Type 0) → Left P l s t at → (IsMoving (s.state at) → Q) → IsMoving (t.state at) → Q
+rests_on P l s t at Q (Same same) rests moving = rests (rw same.state at moving)
+rests_on P l s t at Q (Untagged makes was is seal wide) rests moving = absurd (rw is at moving)
+rests_on P l s t at Q (Born was is seal wide own) rests moving = absurd (rw is at moving)
 
 -- ---- fields of other objects
 
@@ -67,7 +67,7 @@ module _ (P : Protocol) (l : Sizes) (s t : Space) (rows : Rows l t.state t.len t
   seal_by : (sealed : List Sealed) → AreSealed s sealed → (a f : ℕ) → Left P l s t a → IsLive (t.state a) → f < t.len a → seal_in sealed (a + 1 + f) ≡ t.seal a
   seal_by sealed are a f (Same same) live inside = same_seal sealed are a f (subst IsLive same.state live) same.seal inside
   seal_by sealed are a f (Untagged makes was is seal wide) live inside = same_seal sealed are a f (rw was tt) seal inside
-  seal_by sealed are a f (Born was is seal own) live inside = new_seal sealed are a f was is seal inside
+  seal_by sealed are a f (Born was is seal wide own) live inside = new_seal sealed are a f was is seal inside
 
   pub sealed_stays : (sealed : List Sealed) → AreSealed s sealed → AreSealed t sealed
   sealed_stays sealed are = record {

@@ -42,11 +42,11 @@ module _ {R W E M : Type 0} (kit : Kit R W E M) (l : Sizes) where
         omega (arith, sum_by-cons (is_pass_of kit pass) (party.Pass (opening_pass l from)) (passes (from + 1) count), one, rest))
   ]
 
-  module _ (cycles : ℕ) where
+  module _ (cycles salt : ℕ) where
     abbrev last : Party R W E M
-    last = party.Collector (record { machine = collector_of kit l cycles; awaited = none_awaited; sealed = [] })
+    last = party.Collector (record { machine = collector_of kit l cycles salt; awaited = none_awaited; sealed = [] })
 
-    pub opening_counts : AreParties kit l (opening_parties kit l cycles)
+    pub opening_counts : AreParties kit l (opening_parties kit l cycles salt)
     opening_counts = record {
       many = omega (arith, length-append (passes 1 l.passes) (last ∷ []), as_many 1 l.passes);
       passes = λ pass is. omega (arith, sum_by-append (is_pass_of kit pass) (passes 1 l.passes) (last ∷ []), once pass 1 l.passes is.0 (omega (arith, is.1)), sum_by-cons (is_pass_of kit pass) last []);

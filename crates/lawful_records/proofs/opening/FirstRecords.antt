@@ -8,7 +8,7 @@ use Rattle.heap_words.specs.PlaceLaws.{words_of-bound}
 use Rattle.heap_history.specs.FixedHeaps.{zeros}
 use Rattle.heap_history.specs.HistoryLaws.{fields_of-new_other}
 use Rattle.heap_history.specs.NewestFirst.{len_at}
-use Rattle.handshakes.specs.Handshakes.{Announced, Answers}
+use Rattle.handshakes.specs.Handshakes.{Announced, Answers, AnswersWith}
 use Rattle.handshakes.specs.PhaseWords.{retired_word, phase_word_of, names_phase}
 use Rattle.handshakes.specs.Phases.{phase_of}
 use Rattle.handshakes.specs.Polling.{held_in}
@@ -55,7 +55,7 @@ zero_phase = refl
 no_other : (b : ℕ) → 1 < b → len_at [] b ≡ None
 no_other b large = ap (option_map length) (fields_of-new_other [] 1 (zeros 8) b (λ same. omega (arith, same, large)))
 
-module _ {R W E M : Type 0} (kit : Kit R W E M) (by : Stepping R W E M) (laws : Laws kit by) (l : Sizes) (fits : IsLayout l) (a : Announced) (c : Cycle) (announcement : IsAnnounced l a c) (still : a.word ≡ 0) (pass : ℕ) (is : IsPass l pass) where
+module _ {R W E M : Type 0} (kit : Kit R W E M) (by : Stepping R W E M) (laws : Laws kit by) (l : Sizes) (fits : IsLayout l) (a : Announced) (c : Cycle) (mark : ℕ) (announcement : IsAnnounced kit.minds l a c mark) (still : a.word ≡ 0) (bare : a.mark ≡ 0) (pass : ℕ) (is : IsPass l pass) where
   abbrev S : Space
   S = opening_space l
 
@@ -68,12 +68,15 @@ module _ {R W E M : Type 0} (kit : Kit R W E M) (by : Stepping R W E M) (laws : 
   answers : Answers a pass 0
   answers = inr (inl (sym still))
 
+  marked : AnswersWith a pass 0 0
+  marked = inr (inl (sym still, sym bare))
+
   own_none : (minds : Bool) → own_of minds (record { pass = pass; acked = 0; mark = 0 }) ≡ None
   own_none true = refl
   own_none false = refl
 
   shaken : Handshaken c (side_of kit p)
-  shaken = announcement.shaken (side_of kit p) 0 is answers runs refl (own_none kit.minds)
+  shaken = announcement.shaken (record { pass = pass; acked = 0; mark = 0 }) [] is marked runs
 
   side : IsSide kit.protocol c S (side_of kit p)
   side = record { fits = λ runs. (let cycle = laws.cycle in cycle.fits_by c (side_of kit p) shaken); past = refl; number = subst (OnHand (λ b a. ⊥)) (sym (own_none kit.minds)) tt }
@@ -97,7 +100,7 @@ module _ {R W E M : Type 0} (kit : Kit R W E M) (by : Stepping R W E M) (laws : 
   first_record = record {
     number = is;
     side = side;
-    answering = record { acked = refl; answers = answers; phase = zero_phase; retired = runs; unmarked = refl };
+    answering = record { acked = refl; answers = answers; phase = zero_phase; retired = runs; marked = marked };
     shaken = λ on. shaken;
     eight = refl;
     registers = good;

@@ -1,7 +1,7 @@
 -- Lawful records from the parts of a turn.
 use Rattle.std.specs.Prelude.{IsPermutation}
 use Rattle.std.specs.List.{All}
-use Rattle.std.proofs.Common.{◌≡◌, ℕ, ◌+◌, inl, inr, List, ◌∷◌, length, get_or, sym, ◌∙◌, subst, arith}
+use Rattle.std.proofs.Common.{◌≡◌, ℕ, ◌+◌, ◌≤◌, inl, inr, List, ◌∷◌, length, get_or, sym, ◌∙◌, subst, arith}
 use Rattle.std.proofs.lemmas.List.Elements.{All-cons, All-head, All-tail}
 use Rattle.std.proofs.lemmas.List.Sorted.{All-permutation}
 use Rattle.heap_words.specs.Layouts.{Sizes, words_of}
@@ -10,10 +10,15 @@ use Rattle.call_steps.specs.StepLaws.{reading}
 use Rattle.barriers.specs.Spaces.{Space}
 use Rattle.barriers.specs.Says.{Notices, Says}
 use Rattle.barriers.specs.Rows.{Rows}
+use Rattle.barriers.specs.States.{Absent}
+use Rattle.barriers.specs.MoveWords.{IsSpare}
 use Rattle.barriers.specs.Objects.{AreObjects, HasLens}
 use Rattle.barriers.specs.Cycles.{IsMoving}
 use Rattle.barriers.specs.Kits.{Kit}
+use Rattle.lawful_records.specs.Collectors.{drawn_of}
 use Rattle.lawful_records.specs.Cycling.{announced_by, cycle_of}
+use Rattle.lawful_records.specs.Handshakes.{IsCollector}
+use Rattle.lawful_records.specs.Searches.{SearchStands}
 use Rattle.lawful_records.specs.Frames.{Leaves, Beside}
 use Rattle.lawful_records.specs.LawfulRecords.{IsPassRecord, IsCollectorRecord, IsParty, LawfulRecords}
 use Rattle.lawful_records.specs.Records.{number_of}
@@ -22,9 +27,11 @@ use Rattle.lawful_records.specs.declared.records.PassKnown.{PassKnown}
 use Rattle.lawful_records.specs.declared.records.CollectorKnown.{CollectorKnown}
 use Rattle.lawful_records.specs.declared.records.Party.{Party}
 use Rattle.lawful_records.specs.declared.records.Party.TheVariants as party
+use Rattle.lawful_records.specs.JobStands.{IsMovedBy}
 use Rattle.lawful_records.proofs.frames.JobStays.{leaves_same}
 use Rattle.lawful_records.proofs.frames.PassStays.{beside_same, pass_stays, collector_stays}
 use Rattle.lawful_records.proofs.frames.SealStays.{rests_on}
+use Rattle.lawful_records.proofs.frames.SpareStays.{bare_on}
 use Rattle.lawful_records.proofs.parties.Counts.{IsOther, parties_turn, parties_regroup, others_differ}
 use Rattle.lawful_records.proofs.parties.Pasts.{SeesOn, sees_same, history_turn, history_regroup}
 
@@ -47,8 +54,10 @@ module _ {R W E M : Type 0} (kit : Kit R W E M) where
     collector = w.collector;
     says = w.says;
     announced = w.announced;
-    unmarked = w.unmarked;
+    drawn = w.drawn;
+    spare = w.spare;
     rows = w.rows;
+    bare = w.bare;
     objects = w.objects;
     lens = w.lens;
     resting = w.resting;
@@ -58,24 +67,30 @@ module _ {R W E M : Type 0} (kit : Kit R W E M) where
 
   -- ---- a turn
 
-  party_stays : (l : Sizes) (k : CollectorMachine M) (m : ℕ) (s t : Space) (n o : Notices) → Rows l t.state t.len t.ends t.region → Beside kit l (cycle_of k) m s t n o → Leaves kit.protocol l (cycle_of k) s t → (r : Party R W E M) → IsOther m r → IsParty kit l k s n r → IsParty kit l k t o r
-  party_stays l k m s t n o rows beside leaves (party.Pass p) other is = pass_stays kit l (announced_by k) (cycle_of k) m s t n o p other beside is
-  party_stays l k m s t n o rows beside leaves (party.Collector q) other is = collector_stays kit l k m s t n o q rows beside leaves is
+  -- what a turn leaves of how far a collector's search has come
+  abbrev pub KeepsSearch : Sizes → CollectorMachine M → Space → Space → Type 0
+  KeepsSearch l k s t = (cycles : ℕ) → cycles ≤ 64 → IsCollector l kit.kind cycles k → SearchStands l (cycle_of k) s k → SearchStands l (cycle_of k) t k
+
+  party_stays : (l : Sizes) (k : CollectorMachine M) (m : ℕ) (s t : Space) (n o : Notices) → Rows l t.state t.len t.ends t.region → Beside kit l (cycle_of k) m s t n o → Leaves kit.protocol l (cycle_of k) s t → KeepsSearch l k s t → (r : Party R W E M) → IsOther m r → IsParty kit l k s n r → IsParty kit l k t o r
+  party_stays l k m s t n o rows beside leaves search (party.Pass p) other is = pass_stays kit l (announced_by k) (cycle_of k) m s t n o p other beside is
+  party_stays l k m s t n o rows beside leaves search (party.Collector q) other is = collector_stays kit l k m s t n o q rows beside leaves (search is.cycles is.few is.collects) is
 
   -- where one pass moves, the others stay
-  pub others_stay : (l : Sizes) (k : CollectorMachine M) (m : ℕ) (s t : Space) (n o : Notices) (others : List (Party R W E M)) → Rows l t.state t.len t.ends t.region → Beside kit l (cycle_of k) m s t n o → Leaves kit.protocol l (cycle_of k) s t → All (IsOther m) others → All (IsParty kit l k s n) others → All (IsParty kit l k t o) others
-  others_stay l k m s t n o others rows beside leaves other each i d within =
-      party_stays l k m s t n o rows beside leaves (get_or others i d) (other i d within) (each i d within)
+  pub others_stay : (l : Sizes) (k : CollectorMachine M) (m : ℕ) (s t : Space) (n o : Notices) (others : List (Party R W E M)) → Rows l t.state t.len t.ends t.region → Beside kit l (cycle_of k) m s t n o → Leaves kit.protocol l (cycle_of k) s t → KeepsSearch l k s t → All (IsOther m) others → All (IsParty kit l k s n) others → All (IsParty kit l k t o) others
+  others_stay l k m s t n o others rows beside leaves search other each i d within =
+      party_stays l k m s t n o rows beside leaves search (get_or others i d) (other i d within) (each i d within)
 
   -- What a pass's turn makes of the space and the notices, where it was p and is q, and the words are these.
   pub record PassMoved (l : Sizes) (k : CollectorMachine M) (s : Space) (n : Notices) (p : PassKnown R W E) (words : List ℕ) (t : Space) (o : Notices) (q : PassKnown R W E) : Type 0 where
     pub width : length words ≡ words_of l
     pub says : Says l (reading words) t o
+    pub spare : IsSpare l (reading words) t
     pub rows : Rows l t.state t.len t.ends t.region
     pub objects : AreObjects kit.protocol (cycle_of k) t
     pub lens : HasLens t
     pub beside : Beside kit l (cycle_of k) (number_of p) s t n o
     pub leaves : Leaves kit.protocol l (cycle_of k) s t
+    pub search : KeepsSearch l k s t
     pub number : number_of q ≡ number_of p
     pub sees : SeesOn s.history t.history p.seen q.seen
     pub own : IsPassRecord kit l (announced_by k) (cycle_of k) t o q
@@ -95,13 +110,15 @@ module _ {R W E M : Type 0} (kit : Kit R W E M) where
         collector = w.collector;
         says = moved.says;
         announced = moved.beside.phase ∙ w.announced;
-        unmarked = moved.beside.mark ∙ w.unmarked;
+        drawn = moved.beside.mark ∙ w.drawn;
+        spare = moved.spare;
         rows = moved.rows;
+        bare = λ at. bare_on kit.protocol l w.space t at (moved.leaves.left at) (w.bare at);
         objects = moved.objects;
         lens = moved.lens;
-        resting = λ at. rests_on kit.protocol l w.space t at (moved.leaves.left at) (w.resting at);
+        resting = λ at. rests_on kit.protocol l w.space t at (IsMovedBy w.collector at) (moved.leaves.left at) (w.resting at);
         history = history_turn kit l (number_of p) w.space.history t.history (party.Pass p) (party.Pass q) others moved.sees moved.beside.history (inr its.number) w.history;
-        each = All-cons Q (party.Pass q) others moved.own (others_stay l w.collector (number_of p) w.space t w.notices o others moved.rows moved.beside moved.leaves apart (All-tail P (party.Pass p) others w.each));
+        each = All-cons Q (party.Pass q) others moved.own (others_stay l w.collector (number_of p) w.space t w.notices o others moved.rows moved.beside moved.leaves moved.search apart (All-tail P (party.Pass p) others w.each));
       }
 
   -- What the collector's turn makes of them, where its machine is then this one.
@@ -109,11 +126,13 @@ module _ {R W E M : Type 0} (kit : Kit R W E M) where
     pub width : length words ≡ words_of l
     pub says : Says l (reading words) t o
     pub announced : o.phase ≡ (let a = announced_by k in a.word)
-    pub unmarked : o.mark ≡ 0
+    pub drawn : o.mark ≡ drawn_of k
+    pub spare : IsSpare l (reading words) t
     pub rows : Rows l t.state t.len t.ends t.region
+    pub bare : (a : ℕ) → t.state a ≡ Absent → t.wide a ≡ 0
     pub objects : AreObjects kit.protocol (cycle_of k) t
     pub lens : HasLens t
-    pub resting : (a : ℕ) → IsMoving (t.state a) → ⊥
+    pub resting : (a : ℕ) → IsMoving (t.state a) → IsMovedBy k a
     pub history : t.history ≡ s.history
     pub own : IsCollectorRecord kit l k t q
     pub each : All (IsParty kit l k t o) others
@@ -128,8 +147,10 @@ module _ {R W E M : Type 0} (kit : Kit R W E M) where
     collector = k;
     says = moved.says;
     announced = moved.announced;
-    unmarked = moved.unmarked;
+    drawn = moved.drawn;
+    spare = moved.spare;
     rows = moved.rows;
+    bare = moved.bare;
     objects = moved.objects;
     lens = moved.lens;
     resting = moved.resting;
@@ -151,11 +172,13 @@ module _ {R W E M : Type 0} (kit : Kit R W E M) where
       assemble_pass l ws ws p q others w.space w.notices w (record {
         width = w.width;
         says = w.says;
+        spare = w.spare;
         rows = w.rows;
         objects = w.objects;
         lens = w.lens;
         beside = beside_same kit l (cycle_of w.collector) (number_of p) w.space w.notices;
         leaves = leaves_same kit.protocol l (cycle_of w.collector) w.space;
+        search = λ cycles few collects stands. stands;
         number = begun.number;
         sees = subst (SeesOn w.space.history w.space.history p.seen) (sym begun.seen) (sees_same w.space.history p.seen its.side.past);
         own = begun.own;

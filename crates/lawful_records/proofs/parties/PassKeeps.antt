@@ -5,8 +5,10 @@ use Rattle.std.proofs.lemmas.List.Elements.{All-head}
 use Rattle.call_steps.specs.Steps.{place_of, applied}
 use Rattle.call_steps.specs.StepLaws.{length-applied}
 use Rattle.heap_words.specs.Layouts.{Sizes}
+use Rattle.object_headers.specs.Changes.{is_clover}
 use Rattle.heap_history.specs.declared.call.Call.{Call}
 use Rattle.barriers.specs.Kits.{Kit, Stepping}
+use Rattle.lawful_records.specs.Collectors.{drawn_of}
 use Rattle.lawful_records.specs.Cycling.{announced_by, cycle_of}
 use Rattle.lawful_records.specs.LawfulRecords.{IsPassRecord, IsParty, LawfulRecords}
 use Rattle.lawful_records.specs.PassTurns.{IsAnnounced, PassStands, HasTurn, seal_for, change_in, pass_after}
@@ -16,28 +18,30 @@ use Rattle.lawful_records.specs.declared.records.Party.{Party}
 use Rattle.lawful_records.specs.declared.records.Party.TheVariants as party
 use Rattle.lawful_records.proofs.parties.Pasts.{SeesOn, sees_turn}
 use Rattle.lawful_records.proofs.parties.Assembling.{assemble_pass}
+use Rattle.lawful_records.proofs.collecting.SearchTurns.{search_stays}
 
 module _ {R W E M : Type 0} (kit : Kit R W E M) (by : Stepping R W E M) (l : Sizes) (ws : List ℕ) (p : PassKnown R W E) (others : List (Party R W E M)) (w : LawfulRecords kit l ws (party.Pass p ∷ others)) where
   own : IsPassRecord kit l (announced_by w.collector) (cycle_of w.collector) w.space w.notices p
   own = All-head (IsParty kit l w.collector w.space w.notices) (party.Pass p) others w.each
 
   -- what a pass stands on before its step
-  pub stands_of : IsAnnounced l (announced_by w.collector) (cycle_of w.collector) → PassStands kit by l (announced_by w.collector) (cycle_of w.collector) w.space w.notices p ws
+  pub stands_of : IsAnnounced kit.minds l (announced_by w.collector) (cycle_of w.collector) (drawn_of w.collector) → PassStands kit by l (announced_by w.collector) (cycle_of w.collector) w.space w.notices p ws
   stands_of announcement = record {
     layout = w.layout;
     width = w.width;
     says = w.says;
-    announcement = announcement;
+    spare = w.spare;
+    announcement = subst (IsAnnounced kit.minds l (announced_by w.collector) (cycle_of w.collector)) (sym w.drawn) announcement;
     announced = w.announced;
-    unmarked = w.unmarked;
     rows = w.rows;
+    bare = w.bare;
     objects = w.objects;
     lens = w.lens;
     late = refl;
     own = own;
   }
 
-  module _ (has : HasTurn kit by l (announced_by w.collector) (cycle_of w.collector) w.space w.notices p ws) where
+  module _ (minds : kit.minds ≡ is_clover kit.kind) (has : HasTurn kit by l (announced_by w.collector) (cycle_of w.collector) w.space w.notices p ws) where
     abbrev h : List Call
     h = w.space.history
 
@@ -52,11 +56,13 @@ module _ {R W E M : Type 0} (kit : Kit R W E M) (by : Stepping R W E M) (l : Siz
         assemble_pass kit l ws (applied (pass_asks kit by p.pass.machine) ws) p q others has.space has.notices w (record {
           width = length-applied (pass_asks kit by p.pass.machine) ws ∙ w.width;
           says = turn.says;
+          spare = turn.spare;
           rows = turn.rows;
           objects = turn.objects;
           lens = turn.lens;
           beside = turn.beside;
           leaves = turn.leaves;
+          search = λ cycles few collects stands. search_stays kit minds l w.collector w.space has.space w.notices p turn.leaves turn.beside.seen.heads turn.search own cycles few collects stands;
           number = turn.number;
           sees = sees;
           own = turn.own;

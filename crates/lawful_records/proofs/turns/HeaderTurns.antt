@@ -32,17 +32,20 @@ use Rattle.barriers.specs.Cycles.{Cycle}
 use Rattle.barriers.specs.Objects.{IsSide}
 use Rattle.barriers.specs.Kits.{Kit, Stepping, Laws}
 use Rattle.barriers.proofs.words.Made.{absent_before, rows_made, says_made}
+use Rattle.barriers.proofs.words.SpareCalls.{spare_made}
 use Rattle.barriers.proofs.objects.Made.{made_leaves_move}
 use Rattle.barriers.proofs.words.Regions.{region_is}
 use Rattle.barriers.proofs.words.Sets.{set_cases, set_here, set_else}
 use Rattle.lawful_records.specs.Frames.{SeenBy, Beside, SameRegion, Left, Same, Born, Leaves}
 use Rattle.lawful_records.specs.LawfulRecords.{IsPassRecord}
 use Rattle.lawful_records.specs.Making.{IsPlaced, IsRoom}
+use Rattle.lawful_records.specs.Records.{side_of}
 use Rattle.lawful_records.specs.PassTurns.{PassStands, HasTurn, in_machine}
 use Rattle.barriers.specs.declared.pass.PassMachine.TheVariants as machine
 use Rattle.lawful_records.specs.declared.records.PassKnown.{PassKnown}
 use Rattle.lawful_records.proofs.frames.Machines.{good_stays}
 use Rattle.lawful_records.proofs.frames.Regions.{own_apart}
+use Rattle.lawful_records.proofs.frames.SearchStays.{search_append}
 use Rattle.lawful_records.proofs.telling.Meeting.{named_later}
 use Rattle.lawful_records.proofs.telling.Telling.{told_change}
 use Rattle.lawful_records.proofs.turns.Births.{birth_fits, answered_made, change_fits, there_then, unborn_then}
@@ -121,7 +124,7 @@ module _ {R W E M : Type 0} (kit : Kit R W E M) (by : Stepping R W E M) (laws : 
 
   left : (at : ℕ) → Left kit.protocol l s t at
   left at = elim (set_cases s.state (s.ends k) at Plain) [
-    | inl here ↦ Born (ap s.state here.0 ∙ absent) here.1 (ap t.seal here.0 ∙ set_here s.seal (s.ends k) None) (subst (λ a. l.pool ≤ region_of l a) (sym here.0) own_region)
+    | inl here ↦ Born (ap s.state here.0 ∙ absent) here.1 (ap t.seal here.0 ∙ set_here s.seal (s.ends k) None) (ap t.wide here.0 ∙ set_here s.wide (s.ends k) 0) (subst (λ a. l.pool ≤ region_of l a) (sym here.0) own_region)
     | inr there ↦ Same (record {
       state = there.1;
       seal = set_else s.seal (s.ends k) at None there.0;
@@ -133,6 +136,7 @@ module _ {R W E M : Type 0} (kit : Kit R W E M) (by : Stepping R W E M) (laws : 
   leaves : Leaves kit.protocol l c s t
   leaves = record {
     left = left;
+    address = λ at. refl;
     pool = λ region low. record { word = refl; ends = set_else s.ends k region (s.ends k + 1 + len) (λ same. (let own = is.room.own in omega (arith, same, low, own.0))) };
     moves = λ m j job absent_on move. made_leaves_move kit.protocol laws.table c s stands.objects stands.lens k len birth Even pass absent made m j job move (λ same. absent_at j same absent_on);
   }
@@ -169,7 +173,7 @@ module _ {R W E M : Type 0} (kit : Kit R W E M) (by : Stepping R W E M) (laws : 
     acked = was.acked;
     answers = was.answers;
     phase = was.phase;
-    unmarked = was.unmarked;
+    marked = was.marked;
     shaken = λ runs. (let shaken = was.shaken runs in record { told = shaken.told; own = shaken.own; clear = shaken.clear });
     eight = was.eight;
     good = λ i. good_stays s t (held_in p.pass.registers i) seen.holds (was.good i);
@@ -248,11 +252,13 @@ module _ {R W E M : Type 0} (kit : Kit R W E M) (by : Stepping R W E M) (laws : 
       notices = n;
       turn = record {
         says = says_made l s stands.rows k len birth can Even call (reading words) (next kit by l a c s n storing words stands on header_inside) n stands.says stored;
+        spare = spare_made l (reading words) (next kit by l a c s n storing words stands on header_inside) s n stands.rows stands.says stands.spare k len birth Even call can (stands.bare (s.ends k) absent) stored;
         rows = rows_made l s stands.rows k len birth can Even call;
         objects = new_objects kit.protocol laws.table c s stands.objects stands.lens k len birth pass absent made;
         lens = new_lens kit.protocol laws.table c s stands.objects stands.lens k len birth pass absent made;
         beside = beside;
         leaves = leaves;
+        search = search_append kit.kind c (side_of kit storing) s k len birth Even call stands.announcement.zero;
         history = ap (λ (x : Call). x ∷ s.history) (sym change_is);
         number = refl;
         looks = looks_not None s.history p.seen stands.own.side.past;

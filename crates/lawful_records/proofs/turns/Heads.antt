@@ -45,7 +45,7 @@ module _ {R W E M : Type 0} (kit : Kit R W E M) where
   headers_change kind tags s t heads a l (Untagged makes was is seal wide) =
       let same = heads a (rw was tt) in
       inr (rw (was, is, same.birth, same.len, same.colour) (untagged kind (s.colour a) (s.len a) (s.birth a) (tags makes)))
-  headers_change kind tags s t heads a l (Born was is seal own) = inr (rw (was, is) tt)
+  headers_change kind tags s t heads a l (Born was is seal wide own) = inr (rw (was, is) tt)
 
   -- a turn of a pass
   module _ (by : Stepping R W E M) (l : Sizes) (words : List ℕ) (p : PassKnown R W E) (others : List (Party R W E M)) (w : LawfulRecords kit l words (party.Pass p ∷ others)) where

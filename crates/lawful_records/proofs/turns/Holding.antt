@@ -5,7 +5,7 @@ use Rattle.heap_words.specs.Layouts.{Sizes, IsPass}
 use Rattle.heap_words.specs.declared.field_word.FieldWord.{FieldWord}
 use Rattle.space_reclaim.specs.declared.region_word.RegionWord.{RegionWord}
 use Rattle.heap_history.specs.declared.call.Call.{Call}
-use Rattle.handshakes.specs.Handshakes.{Announced, Answers}
+use Rattle.handshakes.specs.Handshakes.{Announced, Answers, AnswersWith}
 use Rattle.handshakes.specs.PhaseWords.{retired_word, phase_word_of}
 use Rattle.handshakes.specs.Polling.{held_in}
 use Rattle.handshakes.specs.declared.pass_view.PassView.{PassView}
@@ -80,7 +80,7 @@ module _ {R W E M : Type 0} (kit : Kit R W E M) where
     pub acked : n.ack view.pass ≡ view.acked
     pub answers : Answers a view.pass view.acked
     pub phase : IsSome (phase_word_of view.acked)
-    pub unmarked : view.mark ≡ 0
+    pub marked : AnswersWith a view.pass view.acked view.mark
     pub shaken : view.acked ≢ retired_word → Handshaken c (side_at view seen)
     pub eight : length registers ≡ 8
     pub good : (i : ℕ) → IsGood s (held_in registers i)
@@ -108,7 +108,7 @@ module _ {R W E M : Type 0} (kit : Kit R W E M) where
       acked = is.answering.acked;
       answers = is.answering.answers;
       phase = is.answering.phase;
-      unmarked = is.answering.unmarked;
+      marked = is.answering.marked;
       shaken = is.shaken;
       eight = is.eight;
       good = is.registers;
@@ -122,7 +122,7 @@ module _ {R W E M : Type 0} (kit : Kit R W E M) where
     record_of holds machine = record {
       number = holds.number;
       side = holds.side;
-      answering = record { acked = holds.acked; answers = holds.answers; phase = holds.phase; retired = machine.retired; unmarked = holds.unmarked };
+      answering = record { acked = holds.acked; answers = holds.answers; phase = holds.phase; retired = machine.retired; marked = holds.marked };
       shaken = holds.shaken;
       eight = holds.eight;
       registers = holds.good;
@@ -142,7 +142,7 @@ module _ {R W E M : Type 0} (kit : Kit R W E M) where
     acked = is.acked;
     answers = is.answers;
     phase = is.phase;
-    unmarked = is.unmarked;
+    marked = is.marked;
     shaken = is.shaken;
     eight = is.eight;
     good = is.good;

@@ -29,6 +29,7 @@ use Rattle.lawful_records.specs.Making.{IsRoom, IsMaking, IsClaiming, has_room}
 use Rattle.lawful_records.specs.PassTurns.{PassStands, HasTurn, in_machine}
 use Rattle.barriers.specs.declared.pass.PassMachine.TheVariants as machine
 use Rattle.lawful_records.specs.declared.records.PassKnown.{PassKnown}
+use Rattle.lawful_records.proofs.frames.SpareStays.{region_low, spare_low}
 use Rattle.lawful_records.proofs.turns.Claiming.{looked, tries_on, won, filled}
 use Rattle.lawful_records.proofs.turns.HeaderTurns.{header_inside, header_turn}
 use Rattle.lawful_records.proofs.turns.Resting.{PassRests, IsMakingYet, goes_to, quiet_new, rests_of, room_of, record_rests, rests_region}
@@ -153,6 +154,7 @@ module _ {R W E M : Type 0} (kit : Kit R W E M) (by : Stepping R W E M) (laws : 
         let small : pass < 32 = omega (arith, stands.own.number.1, stands.layout.passes.1) in
         region_turn kit by l a c s n claiming words stands on inside refl (looks_not None s.history p.seen stands.own.side.past) refl k (Taken pass)
         (says_claimed l (reading words) s n stands.rows stands.says (next kit by l a c s n claiming words stands on inside) k pass there small exchanged zero)
+        (spare_low l (reading words) (next kit by l a c s n claiming words stands on inside) s stands.spare (region_at l k) (either (reading words (region_at l k) == 0) (word_of_region (Taken pass)) (reading words (region_at l k))) exchanged (region_low l k there))
         (λ same. cc same) is.round_is.own
         (subst (λ (free : Bool). IsPassRecord kit l a c t n (goes_to kit p (machine.New (makes.claimed plan (if free then claim.Ended (claim_end.Claimed (claims.region_of r)) else claims.passed_by claim.Claim r))))) (sym e) (placing_own free))
 
@@ -183,6 +185,7 @@ module _ {R W E M : Type 0} (kit : Kit R W E M) (by : Stepping R W E M) (laws : 
     fill_turn : HasTurn kit by l a c s n filling words
     fill_turn = region_turn kit by l a c s n filling words stands on in_table refl (looks_not None s.history p.seen stands.own.side.past) refl old Filled
         (says_region l (reading words) s n stands.rows stands.says (next kit by l a c s n filling words stands on in_table) old Filled (own_there l pass old stands.layout stands.own.number stands.own.machine.1.own) tt stored)
+        (spare_low l (reading words) (next kit by l a c s n filling words stands on in_table) s stands.spare (region_at l old) (word_of_region Filled) stored (region_low l old (own_there l pass old stands.layout stands.own.number stands.own.machine.1.own)))
         (λ same. cc same) stands.own.machine.1.own filled_own
 
   pub new_turn : (m : NewMachine) → Stands m → makes.asks_of m ≢ Ended → HasTurn kit by l a c s n (in_machine p (machine.New m)) words

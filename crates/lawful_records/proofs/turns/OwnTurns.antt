@@ -22,6 +22,7 @@ use Rattle.lawful_records.proofs.parties.PassKeeps.{stands_of, pass_keeps}
 use Rattle.lawful_records.proofs.parties.Pasts.{history_is}
 use Rattle.lawful_records.proofs.parties.Seals.{are_sealed}
 use Rattle.lawful_records.proofs.calls.Sights.{turned_alike}
+use Rattle.lawful_records.specs.Collectors.{drawn_of}
 use Rattle.lawful_records.specs.Cycling.{announced_by, cycle_of}
 use Rattle.lawful_records.specs.LawfulRecords.{LawfulRecords}
 use Rattle.lawful_records.specs.Records.{known_of}
@@ -83,7 +84,7 @@ module _ {R W E M : Type 0} (kit : Kit R W E M) (by : Stepping R W E M) (laws : 
 
 -- and keeps lawful records
 module _ {R W E M : Type 0} (kit : Kit R W E M) (by : Stepping R W E M) (laws : Laws kit by) (cycle : CycleLaws kit.protocol) (l : Sizes) (words : List ℕ) (p : PassKnown R W E) (others : List (Party R W E M))
-    (w : LawfulRecords kit l words (party.Pass p ∷ others)) (announcement : IsAnnounced l (announced_by w.collector) (cycle_of w.collector)) where
+    (w : LawfulRecords kit l words (party.Pass p ∷ others)) (announcement : IsAnnounced kit.minds l (announced_by w.collector) (cycle_of w.collector) (drawn_of w.collector)) where
   stands : PassStands kit by l (announced_by w.collector) (cycle_of w.collector) w.space w.notices p words
   stands = stands_of kit by l words p others w announcement
 
@@ -100,7 +101,7 @@ module _ {R W E M : Type 0} (kit : Kit R W E M) (by : Stepping R W E M) (laws : 
       (λ a f live inside at. ap (seal_in (sealed_of others)) at ∙ (are_sealed kit l w.collector w.space w.notices (party.Pass p ∷ others) (let are = w.parties in are.collector) w.each).seals a f live inside))
 
   pub own_keeps : pass_asks kit by p.pass.machine ≢ Ended → LawfulRecords kit l (applied (party_asks kit by (party.Pass p)) words) (turned kit by others (party.Pass p) (slice_index words (place_of (party_asks kit by (party.Pass p)))) ∷ others)
-  own_keeps on = pass_keeps kit by l words p others w (turn_of kit by laws cycle l (announced_by w.collector) (cycle_of w.collector) w.space w.notices words p stands on) (turned_is on)
+  own_keeps on = pass_keeps kit by l words p others w laws.minds (turn_of kit by laws cycle l (announced_by w.collector) (cycle_of w.collector) w.space w.notices words p stands on) (turned_is on)
 
   pub own_kept : pass_asks kit by p.pass.machine ≢ Ended → (k next : Known) → known_of kit p.pass.machine ≡ Some k → known_of kit (pass_fed kit by p.pass.machine (slice_index words (place_of (pass_asks kit by p.pass.machine)))) ≡ Some next → CallKept k next
   own_kept on = kept_of kit by laws cycle l (announced_by w.collector) (cycle_of w.collector) w.space w.notices words p stands on

@@ -1,5 +1,5 @@
 -- The turn of a pass that polls.
-use Rattle.std.proofs.Common.{◌≡◌, ◌≢◌, ℕ, ◌+◌, ◌==◌, inl, inr, Bool, true, false, List, length, if◌then◌else◌, None, refl, sym, ap, ◌∙◌, subst, arith}
+use Rattle.std.proofs.Common.{◌≡◌, ◌≢◌, ℕ, ◌+◌, ◌<◌, ◌==◌, inl, inr, Bool, true, false, List, length, if◌then◌else◌, None, refl, sym, ap, ◌∙◌, subst, arith}
 use Rattle.std.specs.Prelude.{slice_index}
 use Rattle.call_steps.specs.declared.step.Step.TheVariants.{Ended}
 use Rattle.call_steps.specs.Steps.{IsInside, place_of}
@@ -13,7 +13,7 @@ use Rattle.handshakes.specs.declared.poll.Poll.{Poll}
 use Rattle.handshakes.specs.declared.poll.PollEnd.{PollEnd}
 use Rattle.handshakes.specs.declared.poll.PollMachine.{PollMachine}
 use Rattle.handshakes.specs.declared.poll.PollMachine.TheVariants as poll
-use Rattle.handshakes.specs.Handshakes.{Announced, Answers}
+use Rattle.handshakes.specs.Handshakes.{Announced, Answers, AnswersWith}
 use Rattle.handshakes.specs.Follows.{place_by}
 use Rattle.handshakes.specs.PhaseWords.{phase_word_at, retired_word}
 use Rattle.handshakes.specs.Polls as polls
@@ -26,8 +26,7 @@ use Rattle.barriers.specs.Values.{value_of}
 use Rattle.barriers.specs.Cycles.{Cycle, Handshaken}
 use Rattle.barriers.specs.CycleLaws.{CycleLaws}
 use Rattle.barriers.specs.Objects.{AreObjects, IsSide}
-use Rattle.barriers.specs.Protocols.{OnHand}
-use Rattle.barriers.specs.Kits.{Kit, Stepping, own_of}
+use Rattle.barriers.specs.Kits.{Kit, Stepping}
 use Rattle.barriers.proofs.words.Found.{found_home, found_forward, header_inside}
 use Rattle.barriers.proofs.words.Headers.{live_there}
 use Rattle.barriers.proofs.words.NoticeStores.{says_ack}
@@ -38,10 +37,11 @@ use Rattle.lawful_records.specs.Records.{number_of}
 use Rattle.lawful_records.specs.PassTurns.{PassStands, HasTurn, in_machine}
 use Rattle.barriers.specs.declared.pass.PassMachine.TheVariants as machine
 use Rattle.lawful_records.specs.declared.records.PassKnown.{PassKnown}
+use Rattle.lawful_records.proofs.frames.SpareStays.{ack_low, spare_low}
 use Rattle.lawful_records.proofs.telling.Meeting.{named_same}
 use Rattle.lawful_records.proofs.telling.Telling.{told_quiet}
 use Rattle.lawful_records.proofs.turns.Holding.{PassHolds, side_at, record_of}
-use Rattle.lawful_records.proofs.turns.Polling.{Becomes, poll_next, answered_moved, begin_runs, follow_runs, unmarked_by}
+use Rattle.lawful_records.proofs.turns.Polling.{Becomes, poll_next, answered_moved, begin_runs, follow_runs, own_number}
 use Rattle.lawful_records.proofs.turns.Resting.{PassRests, goes_to, quiet_poll, quiet_polled, rests_of, room_of, record_rests}
 use Rattle.lawful_records.proofs.parties.Pasts.{looks_not}
 use Rattle.lawful_records.proofs.turns.Stepping.{next, put_alike, puts, load_turn, notice_turn}
@@ -75,10 +75,6 @@ link_found {P} l m c s n birth at rows says objects good = by_state (s.state at)
     by_state (Forward to) is = goes to is
     by_state Dead is = absurd (rw is at live)
     by_state x is = stays (rw is tt)
-
-pub own_none : (minds : Bool) (v : PassView) → v.mark ≡ 0 → own_of minds v ≡ None
-own_none true v none = rw none refl
-own_none false v none = refl
 
 module _ {R W E M : Type 0} (kit : Kit R W E M) (by : Stepping R W E M) (cycle : CycleLaws kit.protocol) (l : Sizes) (a : Announced) (c : Cycle) (s : Space) (n : Notices) (p : PassKnown R W E) (words : List ℕ) where
   -- what its polls are about
@@ -151,37 +147,45 @@ module _ {R W E M : Type 0} (kit : Kit R W E M) (by : Stepping R W E M) (cycle :
     abbrev answered : PassView
     answered = view_after polled
 
-    unmarked : answered.mark ≡ 0
-    unmarked = unmarked_by (said_to polled).phase (said_to polled).round p.pass.view.mark n.mark rests.holds.unmarked stands.unmarked
-
     answers : Answers a p.pass.view.pass n.phase
     answers = inr (inl stands.announced)
 
     runs_still : n.phase ≢ retired_word
     runs_still retired = stands.announcement.runs (sym stands.announced ∙ retired)
 
-    own_is : own_of kit.minds answered ≡ None
-    own_is = own_none kit.minds answered unmarked
+    module _ (fresh : p.pass.view.acked ≢ n.phase) where
+      -- it has the mark of the word before until then
+      waited : (a.passed < p.pass.view.pass) × (p.pass.view.mark ≡ a.mark_before)
+      waited = elim rests.holds.marked [
+        | inl ended ↦ absurd (rests.runs ended.0)
+        | inr rest ↦ elim rest [ inl same ↦ absurd (fresh (same.0 ∙ sym stands.announced)) | inr late ↦ (late.1, late.2) ]
+      ]
 
-    shaken : Handshaken c (side_at kit answered p.seen)
-    shaken = stands.announcement.shaken (side_at kit answered p.seen) n.phase rests.holds.number answers runs_still refl own_is
+      mark_then : answered.mark ≡ a.mark
+      mark_then = rw (stands.announced, waited.1) (stands.announcement.answered p.pass.view.pass rests.holds.number waited.0)
 
-    side : IsSide kit.protocol c s (side_at kit answered p.seen)
-    side = record { fits = λ runs. cycle.fits_by c (side_at kit answered p.seen) shaken; past = rests.holds.side.past; number = subst (OnHand (λ b a. ⊥)) (sym own_is) tt }
+      marked : AnswersWith a p.pass.view.pass n.phase answered.mark
+      marked = inr (inl (stands.announced, mark_then))
 
-    module _ (now : List FieldWord) (done : HaveAnswered (IsMoved s) (said_to polled).phase p.pass.registers now) where
+      shaken : Handshaken c (side_at kit answered p.seen)
+      shaken = stands.announcement.shaken answered p.seen rests.holds.number marked runs_still
+
+      side : IsSide kit.protocol c s (side_at kit answered p.seen)
+      side = record { fits = λ runs. cycle.fits_by c (side_at kit answered p.seen) shaken; past = rests.holds.side.past; number = own_number kit.minds answered }
+
+    module _ (fresh : p.pass.view.acked ≢ n.phase) (now : List FieldWord) (done : HaveAnswered (IsMoved s) (said_to polled).phase p.pass.registers now) where
       moved : (length now ≡ length p.pass.registers) × ((i : ℕ) → IsMoved s (held_in p.pass.registers i) (held_in now i))
       moved = answered_moved s polled rests.holds.good now (said_to polled).phase done
 
       holds : PassHolds kit l a c s (put_ack n p.pass.view.pass n.phase) answered now p.seen
       holds = record {
         number = rests.holds.number;
-        side = side;
+        side = side fresh;
         acked = set_here n.ack p.pass.view.pass n.phase;
         answers = answers;
         phase = rw stands.announced stands.announcement.phase;
-        unmarked = unmarked;
-        shaken = λ runs. shaken;
+        marked = marked fresh;
+        shaken = λ runs. shaken fresh;
         eight = moved.0 ∙ rests.holds.eight;
         good = λ i. (moved.1 i).good;
         named = λ i. named_same p.seen (held_in p.pass.registers i) (held_in now i) (moved.1 i).value (rests.holds.named i);
@@ -249,7 +253,7 @@ module _ {R W E M : Type 0} (kit : Kit R W E M) (by : Stepping R W E M) (cycle :
 
     acknowledged : Went storing stands on (put_ack n own_pass n.phase) (polls.fed_of storing (found storing stands on))
     acknowledged = subst (λ (v : PassView). Went storing stands on (put_ack n own_pass n.phase) (polls.ended v q.registers)) (sym view_is)
-        (acked storing stands on q.registers stands.own.machine.1)
+        (acked storing stands on stands.own.machine.0.acked_not q.registers stands.own.machine.1)
 
     stored : Put (reading words) (next kit by l a c s n (in_machine p (machine.Poll storing)) words stands on (poll_inside storing stands)) (ack_at own_pass) n.phase
     stored =
@@ -260,6 +264,7 @@ module _ {R W E M : Type 0} (kit : Kit R W E M) (by : Stepping R W E M) (cycle :
     acknowledge_turn : HasTurn kit by l a c s n (in_machine p (machine.Poll storing)) words
     acknowledge_turn = notice_turn kit by l a c s n (in_machine p (machine.Poll storing)) words stands on (poll_inside storing stands) refl (looks_not None s.history p.seen stands.own.side.past) acknowledged.0 (put_ack n own_pass n.phase)
         (says_ack l (reading words) (next kit by l a c s n (in_machine p (machine.Poll storing)) words stands on (poll_inside storing stands)) s n stands.rows stands.says own_pass n.phase stands.own.number stored)
+        (spare_low l (reading words) (next kit by l a c s n (in_machine p (machine.Poll storing)) words stands on (poll_inside storing stands)) s stands.spare (ack_at own_pass) n.phase stored (ack_low l own_pass stands.own.number))
         (record { acks = λ other apart. set_else n.ack own_pass other n.phase apart; roots = λ other reg apart. refl; phase = refl; mark = refl })
         acknowledged.1
 

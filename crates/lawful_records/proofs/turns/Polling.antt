@@ -1,17 +1,20 @@
 -- What a poll's step makes of its pass's registers, and what it knows after it.
-use Rattle.std.proofs.Common.{◌≡◌, ℕ, ◌+◌, ◌==◌, inl, inr, Bool, true, false, List, [], ◌∷◌, length, if◌then◌else◌, refl, sym, ap, subst, arith}
+use Rattle.std.proofs.Common.{◌≡◌, ℕ, ◌+◌, ◌==◌, inl, inr, Bool, true, false, List, [], ◌∷◌, length, if◌then◌else◌, Some, None, refl, sym, ap, subst, arith}
 use Rattle.std.proofs.Math.Decide.{dec_lt}
 use Rattle.heap_words.specs.declared.field_word.FieldWord.{FieldWord}
 use Rattle.heap_words.specs.declared.field_word.FieldWord.TheVariants.{Num, Link}
 use Rattle.handshakes.specs.declared.phase_word.Phase.{Phase}
-use Rattle.handshakes.specs.declared.phase_word.Phase.TheVariants.{Free, Copy, Fix}
+use Rattle.handshakes.specs.declared.phase_word.Phase.TheVariants.{Copy, Fix}
 use Rattle.handshakes.specs.declared.poll.Poll.{Poll}
 use Rattle.handshakes.specs.declared.poll.PollMachine.{PollMachine}
 use Rattle.handshakes.specs.declared.poll.PollMachine.TheVariants as poll
 use Rattle.handshakes.specs.Polls.{fed_of, follow_from, begin_by}
-use Rattle.handshakes.specs.Polling.{Polled, said_to, mark_by, held_in, AreFollowed, HaveAnswered, IsPolling, IsRunning, PollFinds}
+use Rattle.handshakes.specs.Polling.{Polled, said_to, held_in, AreFollowed, HaveAnswered, IsPolling, IsRunning, PollFinds}
 use Rattle.handshakes.specs.PollingLaws.{poll_goes_on, poll_weaker}
+use Rattle.barriers.specs.Kits.{own_of}
+use Rattle.barriers.specs.Protocols.{OnHand}
 use Rattle.barriers.specs.Spaces.{Space}
+use Rattle.handshakes.specs.declared.pass_view.PassView.{PassView}
 use Rattle.lawful_records.specs.LawfulRecords.{IsGood, IsMoved}
 
 -- ---- the poll's step
@@ -77,12 +80,11 @@ begin_runs phase round p word = tt
 
 -- ---- marks
 
--- no mark is drawn
-pub unmarked_by : (phase : Phase) (round own mark : ℕ) → own ≡ 0 → mark ≡ 0 → mark_by phase round own mark ≡ 0
-unmarked_by Free round own mark none undrawn = refl
-unmarked_by Copy round own mark none undrawn = unmarked (round == 0)
+-- a pass's mark is a number
+pub own_number : (minds : Bool) (view : PassView) → OnHand (λ b a. ⊥) (own_of minds view)
+own_number true view = by (view.mark == 0)
   where
-    unmarked : (first : Bool) → (if first then own else mark) ≡ 0
-    unmarked true = none
-    unmarked false = undrawn
-unmarked_by phase round own mark none undrawn = none
+    by : (none : Bool) → OnHand (λ b a. ⊥) (if none then None else Some (Num view.mark))
+    by true = tt
+    by false = tt
+own_number false view = tt

@@ -127,7 +127,7 @@ module _ {R W E M : Type 0} (kit : Kit R W E M) where
 
   pub rests_root : (l : Sizes) (a : Announced) (c : Cycle) (s : Space) (n : Notices) (p : PassKnown R W E) (pass reg : ℕ) (w : FieldWord) → PassRests l a c s n p → PassRests l a c s (put_root n pass reg w) p
   rests_root l a c s n p pass reg w rests = let was = rests.holds in record {
-    holds = record { number = was.number; side = was.side; acked = was.acked; answers = was.answers; phase = was.phase; unmarked = was.unmarked; shaken = was.shaken; eight = was.eight; good = was.good; named = was.named };
+    holds = record { number = was.number; side = was.side; acked = was.acked; answers = was.answers; phase = was.phase; marked = was.marked; shaken = was.shaken; eight = was.eight; good = was.good; named = was.named };
     runs = rests.runs;
     few = rests.few;
     unborn = rests.unborn;

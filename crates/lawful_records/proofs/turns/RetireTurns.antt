@@ -40,6 +40,7 @@ use Rattle.lawful_records.specs.Records.{number_of}
 use Rattle.lawful_records.specs.PassTurns.{PassStands, HasTurn, in_machine}
 use Rattle.barriers.specs.declared.pass.PassMachine.TheVariants as machine
 use Rattle.lawful_records.specs.declared.records.PassKnown.{PassKnown}
+use Rattle.lawful_records.proofs.frames.SpareStays.{ack_low, root_low, region_low, spare_low}
 use Rattle.lawful_records.proofs.telling.Telling.{told_quiet}
 use Rattle.lawful_records.proofs.turns.Holding.{PassHolds, side_at, record_of}
 use Rattle.lawful_records.proofs.turns.Resting.{PassRests, IsLeaving, goes_to, quiet_retire, rests_of, record_rests, rests_region, rests_root}
@@ -170,6 +171,7 @@ module _ {R W E M : Type 0} (kit : Kit R W E M) (by : Stepping R W E M) (l : Siz
     root_turn : HasTurn kit by l a c s n storing words
     root_turn = notice_turn kit by l a c s n storing words stands on inside refl (looks_not None s.history p.seen stands.own.side.past) after_number o
         (says_root l (reading words) (next kit by l a c s n storing words stands on inside) s n stands.rows stands.says pass reg word stands.own.number (omega arith) (stands.own.registers reg).0 stored)
+        (spare_low l (reading words) (next kit by l a c s n storing words stands on inside) s stands.spare (root_at l pass reg) (word_of word) stored (root_low l pass reg stands.own.number (omega arith)))
         (record { acks = λ other apart. refl; roots = λ other i apart. root_else other i apart; phase = refl; mark = refl })
         after_own
       where
@@ -198,6 +200,7 @@ module _ {R W E M : Type 0} (kit : Kit R W E M) (by : Stepping R W E M) (l : Siz
     leave_turn : HasTurn kit by l a c s n filling words
     leave_turn = region_turn kit by l a c s n filling words stands on there refl (looks_not None s.history p.seen stands.own.side.past) refl k Filled
         (says_region l (reading words) s n stands.rows stands.says (next kit by l a c s n filling words stands on there) k Filled (left_there r at stands) tt filled)
+        (spare_low l (reading words) (next kit by l a c s n filling words stands on there) s stands.spare (region_at l k) (word_of_region Filled) filled (region_low l k (left_there r at stands)))
         (λ e. cc e) (left r at stands).3 filled_own
 
   module _ (r : Retire) (stands : Stands (retire.Acknowledge r)) (on : retires.asks_of (retire.Acknowledge r) ≢ Ended) where
@@ -223,7 +226,7 @@ module _ {R W E M : Type 0} (kit : Kit R W E M) (by : Stepping R W E M) (l : Siz
       acked = set_here n.ack pass retired_word;
       answers = inl refl;
       phase = retired_is_phase;
-      unmarked = refl;
+      marked = inl (refl, refl);
       shaken = λ runs. absurd (runs refl);
       eight = before.holds.eight;
       good = before.holds.good;
@@ -254,6 +257,7 @@ module _ {R W E M : Type 0} (kit : Kit R W E M) (by : Stepping R W E M) (l : Siz
     end_turn : HasTurn kit by l a c s n ending words
     end_turn = notice_turn kit by l a c s n ending words stands on here refl (looks_not None s.history p.seen stands.own.side.past) refl gone
         (says_ack l (reading words) (next kit by l a c s n ending words stands on here) s n stands.rows stands.says pass retired_word stands.own.number said)
+        (spare_low l (reading words) (next kit by l a c s n ending words stands on here) s stands.spare (ack_at pass) retired_word said (ack_low l pass stands.own.number))
         (record { acks = λ other apart. set_else n.ack pass other retired_word apart; roots = λ other reg apart. refl; phase = refl; mark = refl })
         retired_own
 

@@ -13,19 +13,22 @@ use Rattle.handshakes.specs.Handshakes.{Announced}
 use Rattle.barriers.specs.Spaces.{Space}
 use Rattle.barriers.specs.Says.{Notices, Says, put_region}
 use Rattle.barriers.specs.Cycles.{Cycle}
+use Rattle.barriers.specs.MoveWords.{IsSpare}
 use Rattle.barriers.specs.Kits.{Kit, Stepping}
 use Rattle.barriers.proofs.words.Frames.{says_same, put_same}
 use Rattle.barriers.proofs.words.Rows.{rows_region}
 use Rattle.barriers.proofs.words.Sets.{set_else}
 use Rattle.lawful_records.specs.Frames.{SameRegion}
 use Rattle.lawful_records.specs.LawfulRecords.{IsPassRecord}
-use Rattle.lawful_records.specs.Records.{number_of}
+use Rattle.lawful_records.specs.Records.{number_of, side_of}
 use Rattle.lawful_records.specs.Turns.{pass_asks, front_by, with_change, LooksOn}
 use Rattle.lawful_records.specs.PassTurns.{PassStands, HasTurn, seal_for, found_by, change_in, pass_after}
 use Rattle.lawful_records.specs.declared.records.PassKnown.{PassKnown}
 use Rattle.lawful_records.proofs.frames.PassStays.{seen_same}
 use Rattle.lawful_records.proofs.frames.JobStays.{leaves_same, leaves_region}
+use Rattle.lawful_records.proofs.frames.SearchStays.{search_same, search_region}
 use Rattle.lawful_records.proofs.frames.Regions.{own_apart}
+use Rattle.lawful_records.proofs.frames.SpareStays.{spare_same}
 use Rattle.lawful_records.proofs.turns.Holding.{objects_region, seen_region}
 
 -- the notices of all others, and those of the collector, are the same
@@ -72,12 +75,13 @@ module _ {R W E M : Type 0} (kit : Kit R W E M) (by : Stepping R W E M) (l : Siz
 
   module _ (quiet : change_in kit by p words ≡ None) (looks : LooksOn (front_by kit by p.pass.machine (found_by kit by p words)) (seal_for kit by s p.pass.machine) s.history p.seen) (number : number_of (pass_after kit by s p words) ≡ number_of p) where
     -- a store in a notice
-    pub notice_turn : (o : Notices) → Says l next s o → OthersSame (number_of p) n o → IsPassRecord kit l a c s o (pass_after kit by s p words) → HasTurn kit by l a c s n p words
-    notice_turn o says others own = record {
+    pub notice_turn : (o : Notices) → Says l next s o → IsSpare l next s → OthersSame (number_of p) n o → IsPassRecord kit l a c s o (pass_after kit by s p words) → HasTurn kit by l a c s n p words
+    notice_turn o says spare others own = record {
       space = s;
       notices = o;
       turn = record {
         says = says;
+        spare = spare;
         rows = stands.rows;
         objects = stands.objects;
         lens = stands.lens;
@@ -91,6 +95,7 @@ module _ {R W E M : Type 0} (kit : Kit R W E M) (by : Stepping R W E M) (l : Siz
           history = inl refl;
         };
         leaves = leaves_same kit.protocol l c s;
+        search = search_same kit.kind c (side_of kit p) s;
         history = ap (λ change. with_change change s.history) (sym quiet);
         number = number;
         looks = looks;
@@ -100,17 +105,18 @@ module _ {R W E M : Type 0} (kit : Kit R W E M) (by : Stepping R W E M) (l : Siz
 
     -- a load, or an exchange that fails
     pub load_turn : put_by step (found_by kit by p words) ≡ found_by kit by p words → IsPassRecord kit l a c s n (pass_after kit by s p words) → HasTurn kit by l a c s n p words
-    load_turn same own = notice_turn n
-        (says_same l (reading words) next s n (put_same (reading words) next (place_of step) (put_by step (found_by kit by p words)) puts same) stands.rows stands.says)
-        (all_same (number_of p) n) own
+    load_turn same own =
+        let alike : (at : ℕ) → next at ≡ reading words at = put_same (reading words) next (place_of step) (put_by step (found_by kit by p words)) puts same in
+        notice_turn n (says_same l (reading words) next s n alike stands.rows stands.says) (spare_same l (reading words) next s stands.spare alike) (all_same (number_of p) n) own
 
     -- a store in the word of a region of the pass's own
-    pub region_turn : (k : ℕ) (x : RegionWord) → Says l next (put_region s k x) n → x ≢ Free → IsOwn l (number_of p) k → IsPassRecord kit l a c (put_region s k x) n (pass_after kit by s p words) → HasTurn kit by l a c s n p words
-    region_turn k x says used owned own = record {
+    pub region_turn : (k : ℕ) (x : RegionWord) → Says l next (put_region s k x) n → IsSpare l next s → x ≢ Free → IsOwn l (number_of p) k → IsPassRecord kit l a c (put_region s k x) n (pass_after kit by s p words) → HasTurn kit by l a c s n p words
+    region_turn k x says spare used owned own = record {
       space = put_region s k x;
       notices = n;
       turn = record {
         says = says;
+        spare = spare;
         rows = rows_region l s.state s.len s.ends s.region stands.rows k x (λ free. absurd (used free));
         objects = objects_region kit.protocol c s k x stands.objects;
         lens = stands.lens;
@@ -124,6 +130,7 @@ module _ {R W E M : Type 0} (kit : Kit R W E M) (by : Stepping R W E M) (l : Siz
           history = inl refl;
         };
         leaves = leaves_region kit.protocol c s k x l (omega (arith, owned.0));
+        search = search_region kit.kind c (side_of kit p) s k x;
         history = ap (λ change. with_change change s.history) (sym quiet);
         number = number;
         looks = looks;

@@ -1,0 +1,144 @@
+-- What a turn of the collector that changes no object comes to.
+use Rattle.std.specs.List.{All}
+use Rattle.std.proofs.Common.{inl, inr, arith, ◌≡◌, ◌≢◌, ℕ, ◌<◌, ◌≤◌, List, ◌++◌, refl, sym, ap, ◌∙◌, subst}
+use Rattle.call_steps.specs.Steps.{applied}
+use Rattle.call_steps.specs.StepLaws.{reading}
+use Rattle.heap_words.specs.Layouts.{Sizes, first_word}
+use Rattle.handshakes.specs.Handshakes.{Answers, AnswersWith, Advances}
+use Rattle.handshakes.specs.PhaseWords.{retired_word}
+use Rattle.barriers.specs.MoveWords.{IsSpare}
+use Rattle.barriers.specs.Spaces.{Space}
+use Rattle.barriers.specs.Says.{Notices, Says}
+use Rattle.barriers.specs.Objects.{AreObjects}
+use Rattle.barriers.specs.Cycles.{Side, Handshaken}
+use Rattle.barriers.specs.Stances.{Retired, stance_at}
+use Rattle.barriers.specs.Kits.{Kit, Stepping, Laws}
+use Rattle.lawful_records.specs.declared.job.TheConstants.{EMPTIED}
+use Rattle.lawful_records.specs.declared.awaited.Awaited.{Awaited}
+use Rattle.lawful_records.specs.declared.collector.CollectorMachine.{CollectorMachine}
+use Rattle.lawful_records.specs.declared.records.PassKnown.{PassKnown}
+use Rattle.lawful_records.specs.declared.records.Sealed.{Sealed}
+use Rattle.lawful_records.specs.Collectors.{announced_of, drawn_of, passed_of}
+use Rattle.lawful_records.specs.Cycling.{announced_by, cycle_of}
+use Rattle.lawful_records.specs.Handshakes.{IsCollector}
+use Rattle.lawful_records.specs.JobStands.{stand_of, StandsAt, IsMovedBy}
+use Rattle.lawful_records.specs.LawfulRecords.{AreSealed, IsPassRecord}
+use Rattle.lawful_records.specs.Searches.{SearchStands}
+use Rattle.lawful_records.specs.PassTurns.{IsAnnounced}
+use Rattle.lawful_records.specs.Records.{view_by, number_of, acked_of, mark_of, side_of}
+use Rattle.lawful_records.specs.Turns.{collector_asks, sealed_now}
+use Rattle.lawful_records.proofs.frames.Hearing.{Hears, pass_hears}
+use Rattle.lawful_records.proofs.turns.RetireTurns.{stance_retired}
+use Rattle.lawful_records.proofs.collecting.Announcing.{announced_is}
+use Rattle.lawful_records.proofs.collecting.Answering.{answers_on, marked_on, waits_on}
+use Rattle.lawful_records.proofs.collecting.Goes.{found_in, next_of, CollectorStands, CollectorGoes}
+use Rattle.lawful_records.proofs.collecting.Phasing.{PassGoes, Fits}
+use Rattle.lawful_records.proofs.collecting.Playing.{plays_fed}
+use Rattle.lawful_records.proofs.collecting.Shaken.{answered_all}
+
+module _ {R W E M : Type 0} (kit : Kit R W E M) (by : Stepping R W E M) (laws : Laws kit by) (l : Sizes) (words : List ℕ) (s : Space) (n : Notices) (counts : Awaited) (sealed : List Sealed) where
+  -- after its step the words say these notices; the passes' are the same; and what it is to the objects and to passes
+  pub record HasHeard (k : CollectorMachine M) : Type 0 where
+    pub notices : Notices
+    pub says : Says l (reading (applied (collector_asks kit by k) words)) s notices
+    pub spare : IsSpare l (reading (applied (collector_asks kit by k) words)) s
+    pub phase : notices.phase ≡ (let a = announced_by (next_of kit by l words k) in a.word)
+    pub drawn : notices.mark ≡ drawn_of (next_of kit by l words k)
+    pub acks : (pass : ℕ) → notices.ack pass ≡ n.ack pass
+    pub roots : (pass reg : ℕ) → notices.root pass reg ≡ n.root pass reg
+    pub advances : Advances l n.ack (announced_by k) (announced_by (next_of kit by l words k))
+    -- before all have answered nothing is drawn, and the announced word is another than the one before
+    pub marks : passed_of k < l.passes → notices.mark ≡ n.mark
+    pub differ : passed_of k < l.passes → (let a = announced_by k in (a.before ≢ a.word) × (a.before ≢ retired_word))
+    pub objects : AreObjects kit.protocol (cycle_of (next_of kit by l words k)) s
+    pub goes : (side : Side) → (side.acked ≢ Retired → l.passes ≤ passed_of k → side.acked ≡ stance_at (announced_of k)) → Fits kit laws.table laws.cycle s (cycle_of k) side → Fits kit laws.table laws.cycle s (cycle_of (next_of kit by l words k)) side
+        → PassGoes kit laws.table laws.cycle s (cycle_of k) (cycle_of (next_of kit by l words k)) side
+    pub still : (a : ℕ) → IsMovedBy k a → ⊥
+    pub stands_then : StandsAt kit l (cycle_of (next_of kit by l words k)) s (stand_of (next_of kit by l words k))
+    pub search_then : SearchStands l (cycle_of (next_of kit by l words k)) s (next_of kit by l words k)
+    pub none_sealed : sealed ++ sealed_now kit by k s.history (found_in kit by l words k) ≡ sealed
+
+  module _ (k : CollectorMachine M) (stands : CollectorStands kit by l words s n counts sealed k) (has : HasHeard k) where
+    abbrev next : CollectorMachine M
+    next = next_of kit by l words k
+
+    goes_on : IsCollector l kit.kind stands.cycles next
+    goes_on = plays_fed kit by.move_fed l kit.kind stands.cycles k (found_in kit by l words k) stands.layout stands.collects
+
+    told_then : IsAnnounced kit.minds l (announced_by next) (cycle_of next) (drawn_of next)
+    told_then = announced_is kit.minds l kit.kind stands.cycles stands.few laws.minds next goes_on
+
+    module _ (p : PassKnown R W E) (own : IsPassRecord kit l (announced_by k) (cycle_of k) s n p) where
+      abbrev side : Side
+      side = side_of kit p
+
+      abbrev acked : ℕ
+      acked = acked_of p
+
+      runs_by : side.acked ≢ Retired → acked ≢ retired_word
+      runs_by on ended = on (ap stance_at ended ∙ stance_retired)
+
+      answers : Answers (announced_by next) (number_of p) acked
+      answers = answers_on l (announced_by k) n.ack (number_of p) own.number (announced_by next) acked own.answering.acked has.advances own.answering.answers
+
+      marked : AnswersWith (announced_by next) (number_of p) acked (mark_of p)
+      marked = marked_on l (announced_by k) n.ack (number_of p) own.number (announced_by next) acked (mark_of p) own.answering.acked (λ waits. has.differ (waiting waits)) has.advances own.answering.marked
+        where
+          waiting : passed_of k < number_of p → passed_of k < l.passes
+          waiting less = let there = own.number in omega (arith, less, there.1)
+
+      shaken : acked ≢ retired_word → Handshaken (cycle_of next) side
+      shaken runs = told_then.shaken (view_by p.pass.machine p.pass.view) p.seen own.number marked runs
+
+      stood : side.acked ≢ Retired → l.passes ≤ passed_of k → side.acked ≡ stance_at (announced_of k)
+      stood on all = ap stance_at (answered_all l (announced_by k) (number_of p) acked (mark_of p) own.number all own.answering.marked (runs_by on)).0
+
+      pass_goes : PassGoes kit laws.table laws.cycle s (cycle_of k) (cycle_of next) side
+      pass_goes = has.goes side stood (λ on. own.shaken (runs_by on)) (λ on. shaken (runs_by on))
+
+      -- nothing new is announced or drawn to a running pass that has not answered
+      waits : acked ≢ retired_word → acked ≢ n.phase → (has.notices.phase ≡ n.phase) × (has.notices.mark ≡ n.mark)
+      waits runs apart =
+          let not_word : acked ≢ (let a = announced_by k in a.word) = λ same. apart (same ∙ sym stands.announced) in
+          let less : passed_of k < l.passes = elim own.answering.answers [
+            | inl ended ↦ absurd (runs ended)
+            | inr rest ↦ elim rest [ inl same ↦ absurd (not_word same) | inr late ↦ let there = own.number in omega (arith, late.1, there.1) ]
+          ] in
+          (has.phase ∙ waits_on l (announced_by k) n.ack (number_of p) own.number (announced_by next) acked has.advances own.answering.answers runs not_word ∙ sym stands.announced, has.marks less)
+
+      hears : Hears kit (announced_by k) (announced_by next) (cycle_of k) (cycle_of next) s n has.notices p
+      hears = record {
+        ack = has.acks (number_of p);
+        roots = has.roots (number_of p);
+        side = pass_goes.side_on own.side;
+        call = pass_goes.call_on;
+        answers = answers;
+        marked = marked;
+        shaken = shaken;
+        waits = waits;
+      }
+
+      heard_pass : IsPassRecord kit l (announced_by next) (cycle_of next) s has.notices p
+      heard_pass = pass_hears kit l (announced_by k) (announced_by next) (cycle_of k) (cycle_of next) s n has.notices p hears own
+
+    pub hearing_goes : CollectorGoes kit by l words s n sealed k
+    hearing_goes = record {
+      space = s;
+      notices = has.notices;
+      says = has.says;
+      announced = has.phase;
+      drawn = has.drawn;
+      spare = has.spare;
+      rows = stands.rows;
+      bare = stands.bare;
+      objects = has.objects;
+      lens = stands.lens;
+      resting = λ a moving. absurd (has.still a (stands.resting a moving));
+      history = refl;
+      passes = λ p own. heard_pass p own;
+      job = has.stands_then;
+      search = has.search_then;
+      sealed_are = subst (AreSealed s) (sym has.none_sealed) stands.sealed_are;
+      only = subst (All (λ (one : Sealed). one.at ≡ first_word l EMPTIED)) (sym has.none_sealed) stands.only;
+      heads = λ a. inl refl;
+    }
