@@ -36,7 +36,7 @@ last_of P xs y all = subst P (get_or-append-add xs (y ∷ []) 0 y) (all (length 
 
 module _ {R W E M : Type 0} (kit : Kit R W E M) where
   -- a machine that has not ended leaves its pass's view
-  view_going : (m : PassMachine R W E) (view : PassView) → ended_of kit m ≡ None → view_by m view ≡ view
+  pub view_going : (m : PassMachine R W E) (view : PassView) → ended_of kit m ≡ None → view_by m view ≡ view
   view_going (machine.Poll (poll.Ended e)) view going = absurd cc
   view_going (machine.Retire retire.Ended) view going = absurd cc
   view_going m view going = refl

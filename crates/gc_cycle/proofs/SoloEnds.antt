@@ -6,7 +6,7 @@ use Rattle.std.specs.List.{range_with_len}
 use Rattle.std.proofs.Math.Nat.{mul-add, add-mul, mul_assoc, mul_left_comm, mul-le-mul_left}
 use Rattle.std.proofs.lemmas.List.Sums.{sum_by-cons}
 use Rattle.std.proofs.lemmas.List.FromFn.{length-range_with_len, get_or-range_with_len}
-use Rattle.heap_words.specs.Layouts.{Sizes, words_of}
+use Rattle.heap_words.specs.Layouts.{Sizes, IsLayout, regions_of, words_of}
 use Rattle.heap_script.specs.declared.script.Command.{Command}
 use Rattle.heap_script.specs.declared.answer.Answer.{Answer}
 use Rattle.heap_script.specs.Scripts.{Reading}
@@ -17,13 +17,16 @@ use Rattle.barriers.specs.declared.machine_end.Request.TheVariants as requests
 use Rattle.barriers.specs.declared.pass.PassRecord.{PassRecord}
 use Rattle.barriers.specs.Kits.{Kit, Stepping, Laws}
 use Rattle.barriers.specs.Records.{started}
+use Rattle.lawful_records.specs.declared.stage.TheConstants.{SEARCHES}
 use Rattle.gc_cycle.specs.declared.schedule.Schedule.TheVariants.{Solo}
 use Rattle.gc_cycle.specs.Worlds.{State, nobody, fresh_pass, opening_passes, opening_state, or_else}
 use Rattle.gc_cycle.specs.Lawful.{Lawful}
 use Rattle.gc_cycle.specs.Runs.{is_over, run_of, enough_steps}
-use Rattle.gc_cycle.proofs.solo.Alone.{WantsNoWord, IsSolo, all_to_do, turns_end}
-use Rattle.gc_cycle.proofs.solo.CollectorEnds.{job_steps, left_of_collector, left_at_start}
+use Rattle.gc_cycle.proofs.solo.Alone.{IsOutside, IsSolo, all_to_do, turns_end}
+use Rattle.gc_cycle.proofs.solo.CollectorEnds.{left_of_collector, left_at_start}
+use Rattle.gc_cycle.proofs.solo.CycleSteps.{job_steps, seek_steps}
 use Rattle.gc_cycle.proofs.solo.Left.{left}
+use Rattle.gc_cycle.proofs.solo.SearchEnds.{region_steps}
 use Rattle.gc_cycle.proofs.solo.PlaysAlone.{PlaysAlone}
 use Rattle.gc_cycle.proofs.solo.Turns.{machine_at, left_with, to_do, begins_left}
 
@@ -33,19 +36,31 @@ use Rattle.gc_cycle.proofs.solo.Turns.{machine_at, left_with, to_do, begins_left
 within_lines : (lines quota : ℕ) → 18 * lines ≤ lines * (64 + quota)
 within_lines lines quota = omega (arith, mul-add lines 64 quota)
 
--- and a cycle has 64 for each word of the table, of which there are more than passes
-within_cycles : (cycles passes words : ℕ) → 2 + passes ≤ words → 5 * cycles * (1 + passes) + job_steps * cycles ≤ (cycles + 1) * 64 * words
-within_cycles cycles passes words many =
-    let each : cycles * (5 * (1 + passes) + job_steps) ≤ cycles * (64 * words) = mul-le-mul_left cycles (omega (arith, many)) in
-    omega (arith, each, mul-add cycles (5 * (1 + passes)) job_steps, mul_assoc 5 cycles (1 + passes), mul_left_comm cycles 5 (1 + passes), mul_assoc (cycles + 1) 64 words, add-mul cycles 1 (64 * words))
+-- a cycle at most: five announcements, its job, and eight searches
+abbrev cycle_steps : ℕ → ℕ → ℕ
+cycle_steps passes seek = 5 * (1 + passes) + job_steps + SEARCHES * (1 + (1 + passes) + seek)
+
+-- 64 for each word of the table are more
+each_within : (passes regions words : ℕ) → 1 ≤ passes → 3 + 9 * passes + 65 * regions ≤ words → cycle_steps passes (region_steps * regions) ≤ 64 * words
+each_within passes regions words some many = omega (arith, some, many)
+
+cycles_by : (cycles passes seek : ℕ) → 5 * cycles * (1 + passes) + (job_steps * cycles + SEARCHES * cycles * (1 + (1 + passes) + seek)) ≡ cycles * cycle_steps passes seek
+cycles_by cycles passes seek =
+    let search : ℕ = 1 + (1 + passes) + seek in
+    omega (arith, mul-add cycles (5 * (1 + passes) + job_steps) (SEARCHES * search), mul-add cycles (5 * (1 + passes)) job_steps, mul_assoc 5 cycles (1 + passes), mul_left_comm cycles 5 (1 + passes), mul_assoc SEARCHES cycles search, mul_left_comm cycles SEARCHES search)
+
+within_cycles : (cycles passes seek words : ℕ) → cycle_steps passes seek ≤ 64 * words → 5 * cycles * (1 + passes) + (job_steps * cycles + SEARCHES * cycles * (1 + (1 + passes) + seek)) ≤ (cycles + 1) * 64 * words
+within_cycles cycles passes seek words few =
+    let each : cycles * cycle_steps passes seek ≤ cycles * (64 * words) = mul-le-mul_left cycles few in
+    omega (arith, each, cycles_by cycles passes seek, mul_assoc (cycles + 1) 64 words, add-mul cycles 1 (64 * words))
 
 -- threads and the collector together
-all_within : (threads collector lines quota passes cycles words : ℕ) → threads ≤ 18 * lines + 10 * passes → collector ≤ 5 * cycles * (1 + passes) + job_steps * cycles → 2 + passes ≤ words
+all_within : (threads collector lines quota passes cycles seek words : ℕ) → threads ≤ 18 * lines + 10 * passes → collector ≤ 5 * cycles * (1 + passes) + (job_steps * cycles + SEARCHES * cycles * (1 + (1 + passes) + seek)) → cycle_steps passes seek ≤ 64 * words
     → threads + collector ≤ lines * (64 + quota) + passes * 64 + (cycles + 1) * 64 * words
-all_within threads collector lines quota passes cycles words few less many = omega (arith, few, less, within_lines lines quota, within_cycles cycles passes words many)
+all_within threads collector lines quota passes cycles seek words few less each = omega (arith, few, less, within_lines lines quota, within_cycles cycles passes seek words each)
 
-many_words : (l : Sizes) → 2 + l.passes ≤ words_of l
-many_words l = omega arith
+many_words : (l : Sizes) → IsLayout l → cycle_steps l.passes (seek_steps l) ≤ 64 * words_of l
+many_words l fits = each_within l.passes (regions_of l) (words_of l) fits.passes.0 (omega arith)
 
 -- ---- the start
 
@@ -67,14 +82,14 @@ most_each (cs ∷ later) = omega (arith, sum_by-cons most_of cs later, sum_by-co
 
 module _ {R W E M : Type 0} (kit : Kit R W E M) (by : Stepping R W E M) (alone : PlaysAlone kit by) where
   -- each thread is before its first command, or it retires
-  first_wants : (l : Sizes) (r : PassRecord R W E) (b : Bool) → WantsNoWord kit by alone (or_else (started kit l r (if b then requests.Poll else requests.Retire)) r).machine
-  first_wants l r true = tt
-  first_wants l r false = tt
+  first_outside : (l : Sizes) (r : PassRecord R W E) (b : Bool) → IsOutside kit by alone (or_else (started kit l r (if b then requests.Poll else requests.Retire)) r).machine
+  first_outside l r true = tt
+  first_outside l r false = tt
 
-  opening_wants : (l : Sizes) (party : ℕ) (lists : List (List Command)) (i : ℕ) → WantsNoWord kit by alone (get_or (opening_passes kit l party lists) i nobody).machine
-  opening_wants l party [] i = tt
-  opening_wants l party (cs ∷ later) zero = first_wants l (fresh_pass l party) (nat_lt 0 (length cs))
-  opening_wants l party (cs ∷ later) (suc i) = opening_wants l (party + 1) later i
+  opening_outside : (l : Sizes) (party : ℕ) (lists : List (List Command)) (i : ℕ) → IsOutside kit by alone (get_or (opening_passes kit l party lists) i nobody).machine
+  opening_outside l party [] i = tt
+  opening_outside l party (cs ∷ later) zero = first_outside l (fresh_pass l party) (nat_lt 0 (length cs))
+  opening_outside l party (cs ∷ later) (suc i) = opening_outside l (party + 1) later i
 
   opening_left : (l : Sizes) (party : ℕ) (lists : List (List Command)) (i : ℕ)
       → left_with (length (get_or lists i [])) 0 (left kit by (get_or (opening_passes kit l party lists) i nobody).machine) ≤ 18 * length (get_or lists i []) + 10
@@ -82,9 +97,9 @@ module _ {R W E M : Type 0} (kit : Kit R W E M) (by : Stepping R W E M) (alone :
   opening_left l party (cs ∷ later) zero = let few = begins_left kit by (length cs) 0 l (fresh_pass l party) (nat_lt 0 (length cs)) refl in omega (arith, few)
   opening_left l party (cs ∷ later) (suc i) = opening_left l (party + 1) later i
 
-  module _ (s : Reading) (lw : Lawful kit (opening_state kit s)) where
+  module _ (s : Reading) (salt : ℕ) (lw : Lawful kit (opening_state kit s salt)) where
     abbrev start : State R W E M
-    start = opening_state kit s
+    start = opening_state kit s salt
 
     abbrev lists : List (List Command)
     lists = commands_by s.layout.passes s.lines
@@ -111,11 +126,11 @@ module _ {R W E M : Type 0} (kit : Kit R W E M) (by : Stepping R W E M) (alone :
 
     all_at_start : all_to_do kit by alone start ≤ enough_steps s
     all_at_start =
-        all_within (sum_by (to_do kit by start) (range_with_len 1 s.layout.passes)) (left_of_collector kit by alone (let w = start in w.collector)) (length s.lines) s.layout.quota s.layout.passes s.cycles (words_of s.layout)
-        threads_at_start (left_at_start kit by alone s.layout s.cycles) (many_words s.layout)
+        all_within (sum_by (to_do kit by start) (range_with_len 1 s.layout.passes)) (left_of_collector kit by alone (let w = start in w.collector)) (length s.lines) s.layout.quota s.layout.passes s.cycles (seek_steps s.layout) (words_of s.layout)
+        threads_at_start (left_at_start kit by alone s.layout s.cycles salt) (many_words s.layout (let script = lw.script in script.layout))
 
   -- So many steps are enough.
-  pub solo_ends : Laws kit by → (s : Reading) → Lawful kit (opening_state kit s) → (steps : ℕ) → enough_steps s ≤ steps → is_over kit by (run_of kit by Solo steps (opening_state kit s)) ≡ true
-  solo_ends laws s lw steps enough =
-      let is_alone : IsSolo kit by alone s.cycles (start s lw) = record { threads = λ q is. inl (opening_wants s.layout 1 (lists s lw) (q - 1)); collector = inl refl } in
-      turns_end kit by alone laws s.cycles steps (start s lw) lw is_alone (omega (arith, all_at_start s lw, enough))
+  pub solo_ends : Laws kit by → (s : Reading) (salt : ℕ) → Lawful kit (opening_state kit s salt) → (steps : ℕ) → enough_steps s ≤ steps → is_over kit by (run_of kit by Solo steps (opening_state kit s salt)) ≡ true
+  solo_ends laws s salt lw steps enough =
+      let is_alone : IsSolo kit by alone s.cycles salt (start s salt lw) = record { threads = λ q is. inl (opening_outside s.layout 1 (lists s salt lw) (q - 1)); collector = inl refl } in
+      turns_end kit by alone laws s.cycles salt steps (start s salt lw) lw is_alone (omega (arith, all_at_start s salt lw, enough))

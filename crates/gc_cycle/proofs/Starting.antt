@@ -84,6 +84,6 @@ script_of s fits rooms =
       few = omega (arith, total-commands_by n s.lines, fits.count);
     }
 
-pub lawful_at_start : {R W E M : Type 0} (kit : Kit R W E M) (by : Stepping R W E M) → Laws kit by → (s : Reading) → Fits s → ((t : ℕ) → IsPass s.layout t → rooms_of (commands_of t s.lines) ≤ 64)
-    → (w : State R W E M) → w ≡ opening_state kit s → Lawful kit w
-lawful_at_start kit by laws s fits rooms w is = subst (Lawful kit) (sym is) (opening_lawful kit by laws s (script_of s fits rooms) fits.cycles)
+pub lawful_at_start : {R W E M : Type 0} (kit : Kit R W E M) (by : Stepping R W E M) → Laws kit by → (s : Reading) (salt : ℕ) → Fits s → ((t : ℕ) → IsPass s.layout t → rooms_of (commands_of t s.lines) ≤ 64)
+    → (w : State R W E M) → w ≡ opening_state kit s salt → Lawful kit w
+lawful_at_start kit by laws s salt fits rooms w is = subst (Lawful kit) (sym is) (opening_lawful kit by laws s salt (script_of s fits rooms) fits.cycles)

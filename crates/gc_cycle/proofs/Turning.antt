@@ -36,5 +36,5 @@ module _ {R W E M : Type 0} (kit : Kit R W E M) (by : Stepping R W E M) (laws : 
   retired_at_end w lw party is over = turns.retired_at_end kit by laws w lw party is over
 
   -- the start
-  pub opening_lawful : (s : Reading) → IsScript s.layout (let w : State R W E M = opening_state kit s in w.commands) → s.cycles ≤ 64 → Lawful kit (opening_state kit s)
-  opening_lawful s script few = opening_is_lawful kit by laws s script few
+  pub opening_lawful : (s : Reading) (salt : ℕ) → IsScript s.layout (let w : State R W E M = opening_state kit s salt in w.commands) → s.cycles ≤ 64 → Lawful kit (opening_state kit s salt)
+  opening_lawful s salt script few = opening_is_lawful kit by laws s salt script few

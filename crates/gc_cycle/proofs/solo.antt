@@ -1,8 +1,15 @@
 pub mod Alone
 pub mod AloneAtRest
 pub mod AloneChicken
+pub mod AloneClover
+pub mod AloneStopless
 pub mod CollectorEnds
+pub mod CycleSteps
+pub mod Finding
 pub mod Left
+pub mod MovesClover
+pub mod MovesStopless
 pub mod PlaysAlone
+pub mod SearchEnds
 pub mod Standing
 pub mod Turns

@@ -1,3 +1,4 @@
+pub mod CycleEnds
 pub mod Lawful
 pub mod Reports
 pub mod Runs

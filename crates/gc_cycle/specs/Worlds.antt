@@ -13,6 +13,8 @@ use Rattle.space_reclaim.specs.RegionWords.{word_of_region}
 use Rattle.call_steps.specs.declared.step.Step.{Step}
 use Rattle.call_steps.specs.declared.step.Step.TheVariants.{Ended}
 use Rattle.call_steps.specs.Steps.{applied, found_by, place_of, IsInside}
+use Rattle.cycle_journal.specs.declared.journal.MarkFound.{MarkFound}
+use Rattle.cycle_journal.specs.declared.journal.MarkRow.{MarkRow}
 use Rattle.heap_history.specs.declared.call.Ended as calls
 use Rattle.heap_history.specs.Logs.{changes_of}
 use Rattle.heap_script.specs.declared.script.Command.{Command}
@@ -38,7 +40,7 @@ use Rattle.barriers.specs.PassMachines as passes
 use Rattle.barriers.specs.NewObjects.{new_header}
 use Rattle.barriers.specs.Kits.{Kit, Stepping}
 use Rattle.barriers.specs.Records.{IsReady, HasBirths, Fits, with_end, ended_of, started}
-use Rattle.lawful_records.specs.declared.collector.Awaited.{Awaited}
+use Rattle.lawful_records.specs.declared.awaited.Awaited.{Awaited}
 use Rattle.lawful_records.specs.declared.collector.CollectorMachine.{CollectorMachine}
 use Rattle.lawful_records.specs.Collectors.{collector_of, none_awaited, awaits_behind, seals_of, move_ended}
 use Rattle.lawful_records.specs.Collectors as collectors
@@ -49,10 +51,12 @@ use Rattle.gc_cycle.specs.declared.sequel.Sequel.TheVariants as sequel
 use Rattle.gc_cycle.specs.declared.world.SealedAt.{SealedAt}
 use Rattle.gc_cycle.specs.declared.world.Turn.{Turn}
 use Rattle.gc_cycle.specs.declared.world.Turn.TheVariants as turns
+use Rattle.gc_cycle.specs.CycleEnds.{brought, search_ended, finds_after, mark_after, with_mark, nowhere, unmarked_rows}
 use Rattle.gc_cycle.specs.Sequels.{sequel_of}
 
 -- the layout, the commands of each thread, the words, the records of the passes in rising number, the collector and how many changes there
--- were when its awaits ended, the object that it sealed last, what the last job ended with, and what there is to tell
+-- were when its awaits ended, the object that it sealed last, what the last job ended with, where the candidates of the running search were
+-- found, the mark of each cycle, and what there is to tell
 pub record State (R W E M : Type 0) : Type 0 where
   pub layout : Sizes
   pub commands : List (List Command)
@@ -62,6 +66,8 @@ pub record State (R W E M : Type 0) : Type 0 where
   pub awaited : Awaited
   pub sealed : Option SealedAt
   pub moved : Option (MoveJob × MoveEnd)
+  pub finds : List MarkFound
+  pub marks : List MarkRow
   pub told : Telling
 
 -- ---- one party
@@ -153,11 +159,6 @@ abbrev pub sealed_after : Option MoveJob → ℕ → Option SealedAt → Option 
 sealed_after None changes sealed = sealed
 sealed_after (Some job) changes sealed = Some (record { at = job.from; len = job.len; changes = changes })
 
--- what a step has brought, and where it has brought nothing what was there before
-abbrev pub brought : {A : Type 0} → Option A → Option A → Option A
-brought None before = before
-brought (Some a) before = Some a
-
 -- a machine that asks for this takes no step
 abbrev pub is_ended : Step → Bool
 is_ended Ended = true
@@ -244,12 +245,14 @@ module _ {R W E M : Type 0} (kit : Kit R W E M) (by : Stepping R W E M) where
 
   -- the world after the collector's step
   abbrev pub collected : State R W E M → State R W E M
-  collected w = let next = collectors.fed_of kit by.move_fed w.collector (collector_found w) in record w {
+  collected w = let next = collectors.fed_of kit by.move_fed w.collector (collector_found w) in let ended = search_ended w.collector (collector_found w) in record w {
     words = applied (collector_asks w) w.words;
     collector = next;
     awaited = awaits_behind w.collector next (changes_now w) w.awaited;
     sealed = sealed_after (seals_of w.collector (collector_asks w) (collector_found w)) (changes_now w) w.sealed;
     moved = brought (move_ended kit by.move_fed w.collector (collector_found w)) w.moved;
+    finds = finds_after ended w.finds;
+    marks = with_mark (mark_after ended (finds_after ended w.finds)) w.marks;
   }
 
   -- the collector is the party after the threads
@@ -323,16 +326,19 @@ module _ {R W E M : Type 0} (kit : Kit R W E M) where
   opening_passes l party [] = []
   opening_passes l party (commands ∷ later) = opening_pass l commands party ∷ opening_passes l (party + 1) later
 
-  abbrev pub opening_state : Reading → State R W E M
-  opening_state s = record {
+  -- a salt draws the marks
+  abbrev pub opening_state : Reading → ℕ → State R W E M
+  opening_state s salt = record {
     layout = s.layout;
     commands = commands_by s.layout.passes s.lines;
     words = opening_words s.layout;
     passes = opening_passes s.layout 1 (commands_by s.layout.passes s.lines);
-    collector = collector_of kit s.layout s.cycles;
+    collector = collector_of kit s.layout s.cycles salt;
     awaited = none_awaited;
     sealed = None;
     moved = None;
+    finds = nowhere;
+    marks = unmarked_rows s.cycles;
     told = opening_telling (commands_by s.layout.passes s.lines);
   }
 

@@ -58,7 +58,7 @@ fn acknowledge(rt: &impl Abort, words: &mut PlainWords, pass: u32, word: u64) {
 fn a_pass_answers_at_once(rt: HostRuntime) -> Result<(), Fail> {
     let layout = Layout::new(1, 1, 1, 0)?;
     let mut words = PlainWords::zeros(rt.alloc(), 4)?;
-    let mut collector = Stage::first::<AtRest>(&layout, 1);
+    let mut collector = Stage::first::<AtRest>(&layout, 1, 1);
     for put in WORDS {
         let announced = take(&rt, &mut words, &mut collector);
         assert_eq!(rt; announced, Step::Store { at: 0, put });
@@ -74,7 +74,7 @@ fn a_pass_answers_at_once(rt: HostRuntime) -> Result<(), Fail> {
 fn a_pass_has_retired(rt: HostRuntime) -> Result<(), Fail> {
     let layout = Layout::new(1, 1, 1, 0)?;
     let mut words = PlainWords::zeros(rt.alloc(), 4)?;
-    let mut collector = Stage::first::<AtRest>(&layout, 1);
+    let mut collector = Stage::first::<AtRest>(&layout, 1, 1);
     acknowledge(&rt, &mut words, 1, RETIRED);
     for put in WORDS {
         let announced = take(&rt, &mut words, &mut collector);
@@ -91,7 +91,7 @@ fn a_pass_has_retired(rt: HostRuntime) -> Result<(), Fail> {
 fn a_pass_is_looked_at_again(rt: HostRuntime) -> Result<(), Fail> {
     let layout = Layout::new(2, 1, 1, 0)?;
     let mut words = PlainWords::zeros(rt.alloc(), 5)?;
-    let mut collector = Stage::first::<AtRest>(&layout, 2);
+    let mut collector = Stage::first::<AtRest>(&layout, 2, 1);
     acknowledge(&rt, &mut words, 1, 9);
     for step in [
         Step::Store { at: 0, put: 9 },
@@ -120,7 +120,7 @@ fn a_pass_is_looked_at_again(rt: HostRuntime) -> Result<(), Fail> {
 fn the_second_cycle_begins_after_the_first(rt: HostRuntime) -> Result<(), Fail> {
     let layout = Layout::new(1, 1, 1, 0)?;
     let mut words = PlainWords::zeros(rt.alloc(), 4)?;
-    let mut collector = Stage::first::<AtRest>(&layout, 2);
+    let mut collector = Stage::first::<AtRest>(&layout, 2, 1);
     acknowledge(&rt, &mut words, 1, RETIRED);
     for _ in 0..10 {
         take(&rt, &mut words, &mut collector);
@@ -132,6 +132,6 @@ fn the_second_cycle_begins_after_the_first(rt: HostRuntime) -> Result<(), Fail> 
 #[test]
 fn no_cycle_is_played(rt: HostRuntime) -> Result<(), Fail> {
     let layout = Layout::new(1, 1, 1, 0)?;
-    assert_eq!(rt; Stage::first::<AtRest>(&layout, 0).ask(), Step::Ended);
+    assert_eq!(rt; Stage::first::<AtRest>(&layout, 0, 1).ask(), Step::Ended);
     Ok(())
 }

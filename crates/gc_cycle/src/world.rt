@@ -6,6 +6,7 @@ ghost use Rattle.call_steps.specs.Steps.{IsInside, place_of as place_of_step};
 ghost use Rattle.barriers.specs.Records.{IsReady, Fits, started};
 ghost use Rattle.gc_cycle.specs.Worlds.{CanTell, CanConclude, CanSettle, CanTake, IsThere, PutFits, SequelFits, command_at, seal_of as seal_of_address, seen_with as seen_with_of, sealed_after as sealed_after_step, with_put as with_put_of, in_front as in_front_of, face_of, put_pass as put_pass_in, next_request as next_request_in, begun_at, access_begun, answered_with, followed_at, concluded_at, settled_at, asks_at, stepped as stepped_in, taken as taken_in, collector_asks, collected};
 
+mod marking;
 mod opening;
 mod playing;
 mod reporting;
@@ -13,10 +14,12 @@ mod showing;
 
 use crate::sequel::{Face, InRegister, Sequel, what_follows};
 use crate::stepping::Steps;
+use crate::world::marking::{finds_after, put_mark, search_ended};
 use barriers::{
     Copier, Front, MachineEnd, MoveEnd, PassRecord, Request, Watched, end_of, start, with_end,
 };
 use call_steps::{Machine, PlainWords, Step};
+use cycle_journal::{CANDIDATES, MarkFound, MarkRow};
 use heap_history::Ended;
 use heap_script::{Answer, Command, Commands, Refusal, Told};
 use heap_words::Layout;
@@ -58,6 +61,8 @@ pub struct World<P: Copier> {
     awaited: Awaited,
     sealed: Option<SealedAt>,
     moved: Option<(MoveJob, MoveEnd)>,
+    finds: [MarkFound; CANDIDATES],
+    marks: Vec<MarkRow>,
     told: Told,
 }
 
@@ -66,7 +71,7 @@ impl<P: Copier> Model for World<P> {
 
     ghost Value = { State P.Read P.Write P.Exchange P.Move };
 
-    ghost view = { λ w. record { layout = w.layout; commands = w.commands; words = w.words; passes = w.passes.items; collector = w.collector; awaited = w.awaited; sealed = w.sealed; moved = w.moved; told = w.told } };
+    ghost view = { λ w. record { layout = w.layout; commands = w.commands; words = w.words; passes = w.passes.items; collector = w.collector; awaited = w.awaited; sealed = w.sealed; moved = w.moved; finds = w.finds; marks = w.marks.items; told = w.told } };
 }
 
 /// The address of the word on which a step is; 0 for `Ended`.
@@ -353,12 +358,23 @@ where
         let found = self.words.apply(step);
         self.sealed = sealed_after(before.sealed(step, found), changes, self.sealed);
         self.moved = move_end_of::<P>(&before, found).or(self.moved);
+        let ended = search_ended(&before, found);
+        self.finds = finds_after(&ended, self.finds);
+        put_mark(&mut self.marks, &ended, self.finds);
         feed_collector::<P>(&mut self.collector, found);
         self.awaited = self.awaited.behind(&before, &self.collector, changes);
     }
 }
 
 #[cfg(test)]
+mod copier_tests;
+#[cfg(test)]
+mod mark_tests;
+#[cfg(test)]
 mod moving_tests;
 #[cfg(test)]
+mod orders;
+#[cfg(test)]
 mod tests;
+#[cfg(test)]
+mod wide_tests;

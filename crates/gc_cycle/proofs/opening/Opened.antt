@@ -98,7 +98,7 @@ module _ {R W E M : Type 0} (kit : Kit R W E M) where
         left = omega (arith, rooms);
       })
 
-module _ {R W E M : Type 0} (kit : Kit R W E M) (s : Reading) (script : IsScript s.layout (commands_by s.layout.passes s.lines)) where
+module _ {R W E M : Type 0} (kit : Kit R W E M) (s : Reading) (salt : ℕ) (script : IsScript s.layout (commands_by s.layout.passes s.lines)) where
   abbrev lists : List (List Command)
   lists = commands_by s.layout.passes s.lines
 
@@ -109,16 +109,16 @@ module _ {R W E M : Type 0} (kit : Kit R W E M) (s : Reading) (script : IsScript
   none_seen (suc n) = refl
 
   -- no change is seen, and no call told
-  passes_known : (ps : List (PassRecord R W E)) → map (λ p. party.Pass (known_as p)) ps ≡ map (in_pass (opening_state kit s)) ps
+  passes_known : (ps : List (PassRecord R W E)) → map (λ p. party.Pass (known_as p)) ps ≡ map (in_pass (opening_state kit s salt)) ps
   passes_known [] = refl
   passes_known (p ∷ ps) =
-      let here : Party R W E M = party.Pass (known_in (opening_state kit s) p) in
+      let here : Party R W E M = party.Pass (known_in (opening_state kit s salt) p) in
       let same : party.Pass (known_as p) ≡ here = ap (λ (seen : List Call). party.Pass (record { pass = p; seen = seen; mine = []; ended = [] })) (sym (none_seen (0 - p.seen))) in
       ap (λ (q : Party R W E M). q ∷ map (λ p. party.Pass (known_as p)) ps) same ∙ ap (λ (qs : List (Party R W E M)). here ∷ qs) (passes_known ps)
 
   -- ---- the threads
 
-  has_room : HasRoom (opening_state kit s)
+  has_room : HasRoom (opening_state kit s salt)
   has_room = record {
     threads = length-map lists _;
     answers = refl;
@@ -127,36 +127,36 @@ module _ {R W E M : Type 0} (kit : Kit R W E M) (s : Reading) (script : IsScript
     agains = length-agains_of lists;
   }
 
-  pass_is : (p : ℕ) → IsPass s.layout p → pass_at (opening_state kit s) p ≡ opening_pass kit s.layout (commands_at lists p) p
+  pass_is : (p : ℕ) → IsPass s.layout p → pass_at (opening_state kit s salt) p ≡ opening_pass kit s.layout (commands_at lists p) p
   pass_is p is =
       let same : 1 + (p - 1) ≡ p = omega (arith, is.0) in
       opening_passes_at kit s.layout 1 lists (p - 1) (omega (arith, is.0, is.1, script.threads)) ∙ ap (opening_pass kit s.layout (commands_at lists p)) same
 
-  thread_is : (p : ℕ) → IsPass s.layout p → IsThread kit (opening_state kit s) p
+  thread_is : (p : ℕ) → IsPass s.layout p → IsThread kit (opening_state kit s salt) p
   thread_is p is =
-      let t : Thread = thread_of (opening_state kit s) p in
+      let t : Thread = thread_of (opening_state kit s salt) p in
       let here : IsThreadOf kit s.layout t (opening_pass kit s.layout (commands_at lists p) p) [] [] = opening_thread kit s.layout p s.layout.quota (commands_at lists p) (script.rooms p is) in
-      let at : IsThreadOf kit s.layout t (pass_at (opening_state kit s) p) [] [] = subst (λ (x : PassRecord R W E). IsThreadOf kit s.layout t x [] []) (sym (pass_is p is)) here in
-      subst (λ (answers : List Answer). IsThreadOf kit s.layout t (pass_at (opening_state kit s) p) answers []) (sym (opening_answers kit lists (p - 1))) at
+      let at : IsThreadOf kit s.layout t (pass_at (opening_state kit s salt) p) [] [] = subst (λ (x : PassRecord R W E). IsThreadOf kit s.layout t x [] []) (sym (pass_is p is)) here in
+      subst (λ (answers : List Answer). IsThreadOf kit s.layout t (pass_at (opening_state kit s salt) p) answers []) (sym (opening_answers kit lists (p - 1))) at
 
-module _ {R W E M : Type 0} (kit : Kit R W E M) (by : Stepping R W E M) (laws : Laws kit by) (s : Reading) where
+module _ {R W E M : Type 0} (kit : Kit R W E M) (by : Stepping R W E M) (laws : Laws kit by) (s : Reading) (salt : ℕ) where
   -- the records that are read off the world
-  records_known : (let w : State R W E M = opening_state kit s in IsScript s.layout w.commands) → s.cycles ≤ 64 → LawfulRecords kit s.layout (opening_words s.layout) (records_in (opening_state kit s))
+  records_known : (let w : State R W E M = opening_state kit s salt in IsScript s.layout w.commands) → s.cycles ≤ 64 → LawfulRecords kit s.layout (opening_words s.layout) (records_in (opening_state kit s salt))
   records_known script few =
       let lists : List (List Command) = commands_by s.layout.passes s.lines in
-      let collector : List (Party R W E M) = collector_at_start kit s.layout s.cycles ∷ [] in
-      subst (λ (rs : List (Party R W E M)). LawfulRecords kit s.layout (opening_words s.layout) (rs ++ collector)) (passes_known kit s script (opening_passes kit s.layout 1 lists))
-      (records_start kit by laws s.layout lists s.cycles script.layout script.threads few)
+      let collector : List (Party R W E M) = collector_at_start kit s.layout s.cycles salt ∷ [] in
+      subst (λ (rs : List (Party R W E M)). LawfulRecords kit s.layout (opening_words s.layout) (rs ++ collector)) (passes_known kit s salt script (opening_passes kit s.layout 1 lists))
+      (records_start kit by laws s.layout lists s.cycles salt script.layout script.threads few)
 
 -- The world at the start is lawful.
-pub opening_is_lawful : {R W E M : Type 0} (kit : Kit R W E M) (by : Stepping R W E M) (laws : Laws kit by) (s : Reading) → IsScript s.layout (let w : State R W E M = opening_state kit s in w.commands) → s.cycles ≤ 64 → Lawful kit (opening_state kit s)
-opening_is_lawful kit by laws s script few = record {
-  records = records_known kit by laws s script few;
+pub opening_is_lawful : {R W E M : Type 0} (kit : Kit R W E M) (by : Stepping R W E M) (laws : Laws kit by) (s : Reading) (salt : ℕ) → IsScript s.layout (let w : State R W E M = opening_state kit s salt in w.commands) → s.cycles ≤ 64 → Lawful kit (opening_state kit s salt)
+opening_is_lawful kit by laws s salt script few = record {
+  records = records_known kit by laws s salt script few;
   sealed = λ one is. absurd cc;
   script = script;
   passes = length-opening_passes kit s.layout 1 (commands_by s.layout.passes s.lines) ∙ script.threads;
-  room = has_room kit s script;
+  room = has_room kit s salt script;
   log = IsLog-opening;
   owners = All-nil (λ (e : Ended). (1 ≤ pass_of e.call) × (pass_of e.call ≤ s.layout.passes));
-  threads = thread_is kit s script;
+  threads = thread_is kit s salt script;
 }

@@ -24,8 +24,8 @@ abbrev pub known_as : {R W E : Type 0} → PassRecord R W E → PassKnown R W E
 known_as p = record { pass = p; seen = []; mine = []; ended = [] }
 
 -- a collector before its first step
-abbrev pub collector_at_start : {R W E M : Type 0} → Kit R W E M → Sizes → ℕ → Party R W E M
-collector_at_start kit l cycles = party.Collector (record { machine = collector_of kit l cycles; awaited = none_awaited; sealed = [] })
+abbrev pub collector_at_start : {R W E M : Type 0} → Kit R W E M → Sizes → ℕ → ℕ → Party R W E M
+collector_at_start kit l cycles salt = party.Collector (record { machine = collector_of kit l cycles salt; awaited = none_awaited; sealed = [] })
 
 module _ {R W E M : Type 0} (kit : Kit R W E M) (by : Stepping R W E M) (laws : Laws kit by) (l : Sizes) where
   -- before its first command it polls, and without a command it retires
@@ -49,8 +49,8 @@ module _ {R W E M : Type 0} (kit : Kit R W E M) (by : Stepping R W E M) (laws : 
       lawful_regroups kit l words (rest ++ begun ∷ others) (begun ∷ (rest ++ others)) (IsPermutation-middle rest begun others) (passes_start words later (first + 1) (begun ∷ others) aside)
 
   -- all have begun
-  pub records_start : (lists : List (List Command)) (cycles : ℕ) → IsLayout l → length lists ≡ l.passes → cycles ≤ 64
-      → LawfulRecords kit l (opening_words l) (map (λ p. party.Pass (known_as p)) (opening_passes kit l 1 lists) ++ collector_at_start kit l cycles ∷ [])
-  records_start lists cycles il counted few =
-      passes_start (opening_words l) lists 1 (collector_at_start kit l cycles ∷ [])
-      (subst (λ (n : ℕ). LawfulRecords kit l (opening_words l) (opening.opening_passes l 1 n ++ collector_at_start kit l cycles ∷ [])) (sym counted) (lawful_opens kit by laws l cycles il few))
+  pub records_start : (lists : List (List Command)) (cycles salt : ℕ) → IsLayout l → length lists ≡ l.passes → cycles ≤ 64
+      → LawfulRecords kit l (opening_words l) (map (λ p. party.Pass (known_as p)) (opening_passes kit l 1 lists) ++ collector_at_start kit l cycles salt ∷ [])
+  records_start lists cycles salt il counted few =
+      passes_start (opening_words l) lists 1 (collector_at_start kit l cycles salt ∷ [])
+      (subst (λ (n : ℕ). LawfulRecords kit l (opening_words l) (opening.opening_passes l 1 n ++ collector_at_start kit l cycles salt ∷ [])) (sym counted) (lawful_opens kit by laws l cycles salt il few))

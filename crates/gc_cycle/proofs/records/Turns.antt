@@ -12,7 +12,7 @@ use Rattle.barriers.specs.Kits.{Kit, Stepping, Laws}
 use Rattle.lawful_records.specs.Beginnings.{BeginsOn}
 use Rattle.lawful_records.specs.LawfulRecords.{LawfulRecords}
 use Rattle.lawful_records.specs.Turns.{with_change}
-use Rattle.lawful_records.specs.declared.collector.Awaited.{Awaited}
+use Rattle.lawful_records.specs.declared.awaited.Awaited.{Awaited}
 use Rattle.lawful_records.specs.declared.collector.CollectorMachine.{CollectorMachine}
 use Rattle.lawful_records.specs.declared.records.CollectorKnown.{CollectorKnown}
 use Rattle.lawful_records.specs.declared.records.PassKnown.{PassKnown}

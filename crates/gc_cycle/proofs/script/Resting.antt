@@ -29,11 +29,13 @@ use Rattle.barriers.specs.Records.{ended_of}
 use Rattle.lawful_records.specs.declared.records.PassKnown.{PassKnown}
 use Rattle.lawful_records.specs.LawfulRecords.{IsMachine}
 use Rattle.lawful_records.specs.Turns.{change_by, front_by, pass_asks, pass_fed}
-use Rattle.lawful_records.specs.declared.collector.Awaited.{Awaited}
+use Rattle.lawful_records.specs.declared.awaited.Awaited.{Awaited}
 use Rattle.lawful_records.specs.Collectors.{seals_of}
 use Rattle.lawful_records.specs.declared.collector.CollectorMachine.{CollectorMachine}
 use Rattle.space_reclaim.specs.declared.move_job.MoveJob.{MoveJob}
 use Rattle.barriers.specs.declared.ends.MoveEnd.{MoveEnd}
+use Rattle.cycle_journal.specs.declared.journal.MarkFound.{MarkFound}
+use Rattle.cycle_journal.specs.declared.journal.MarkRow.{MarkRow}
 use Rattle.gc_cycle.specs.declared.world.SealedAt.{SealedAt}
 use Rattle.gc_cycle.proofs.records.Seals.{AreFew, few_after}
 use Rattle.gc_cycle.specs.Worlds.{State, pass_at, command_at, changes_now, fed_at, nobody, seal_of, seen_with, is_collector, collector_asks, collector_found, collected}
@@ -67,9 +69,9 @@ module _ {R W E M : Type 0} (kit : Kit R W E M) (by : Stepping R W E M) where
   still_retired w party is = still_by w party machine.Retired is (refl, refl, refl)
 
   -- whatever becomes of the words and the collector
-  pub turned_still : (w : State R W E M) → IsScripted kit w → (party : ℕ) → IsStill w party → (words : List ℕ) (collector : CollectorMachine M) (awaited : Awaited) (sealed : Option SealedAt) (moved : Option (MoveJob × MoveEnd)) → AreFew sealed (changes_now w)
-      → IsTurned kit by w party (record w { words = words; collector = collector; awaited = awaited; sealed = sealed; moved = moved })
-  turned_still w lw party still words collector awaited sealed moved few = record {
+  pub turned_still : (w : State R W E M) → IsScripted kit w → (party : ℕ) → IsStill w party → (words : List ℕ) (collector : CollectorMachine M) (awaited : Awaited) (sealed : Option SealedAt) (moved : Option (MoveJob × MoveEnd)) (finds : List MarkFound) (marks : List MarkRow) → AreFew sealed (changes_now w)
+      → IsTurned kit by w party (record w { words = words; collector = collector; awaited = awaited; sealed = sealed; moved = moved; finds = finds; marks = marks })
+  turned_still w lw party still words collector awaited sealed moved finds marks few = record {
     scripted = record {
       script = lw.script;
       passes = lw.passes;
@@ -96,7 +98,7 @@ module _ {R W E M : Type 0} (kit : Kit R W E M) (by : Stepping R W E M) where
   pub collector_turned : (w : State R W E M) → IsScripted kit w → (party : ℕ) → is_collector kit by w party ≡ true → IsTurned kit by w party (collected kit by w)
   collector_turned w lw party is =
       let past : pass_at w party ≡ nobody = get_or_past w.passes (party - 1) nobody (omega (arith, lw.passes, ltb-true w.layout.passes party is)) in
-      turned_still w lw party (still_idle w party (ap (λ (x : PassRecord R W E). x.machine) past)) _ _ _ _ _
+      turned_still w lw party (still_idle w party (ap (λ (x : PassRecord R W E). x.machine) past)) _ _ _ _ _ _ _
       (few_after w.sealed (seals_of w.collector (collector_asks kit by w) (collector_found kit by w)) (changes_now w) lw.sealed)
 
 -- ---- a thread that takes no step has retired

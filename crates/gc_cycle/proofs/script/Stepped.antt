@@ -42,6 +42,7 @@ use Rattle.barriers.specs.declared.ends.ExchangeEnd.TheVariants as exchange_end
 use Rattle.barriers.specs.declared.ends.TryRefusal.TheVariants as refusal
 use Rattle.barriers.specs.declared.front.Front.{Front}
 use Rattle.barriers.specs.Records.{ended_of, with_end, IsReady}
+use Rattle.lawful_records.specs.Collectors.{drawn_of}
 use Rattle.lawful_records.specs.Cycling.{announced_by, cycle_of}
 use Rattle.lawful_records.specs.LawfulRecords.{AreSealed, LawfulRecords, IsPassRecord}
 use Rattle.lawful_records.specs.Beginnings.{word_of_end, word_told, rested}
@@ -74,7 +75,7 @@ use Rattle.gc_cycle.proofs.script.Stepping.{found_alike, free_word, all_held, wo
 
 -- ---- in a lawful world
 
-module _ {R W E M : Type 0} (kit : Kit R W E M) (by : Stepping R W E M) (laws : Laws kit by) (w : State R W E M) (lw : Lawful kit w) (party : ℕ) (is : IsPass w.layout party) (few : (let p = pass_at w party in p.made) < 262144) (announcement : IsAnnounced w.layout (announced_by (let r = lw.records in r.collector)) (cycle_of (let r = lw.records in r.collector)))
+module _ {R W E M : Type 0} (kit : Kit R W E M) (by : Stepping R W E M) (laws : Laws kit by) (w : State R W E M) (lw : Lawful kit w) (party : ℕ) (is : IsPass w.layout party) (few : (let p = pass_at w party in p.made) < 262144) (announcement : IsAnnounced kit.minds w.layout (announced_by (let r = lw.records in r.collector)) (cycle_of (let r = lw.records in r.collector)) (drawn_of (let r = lw.records in r.collector)))
     (on : asks_at kit by w party ≢ steps.Ended) where
   abbrev records : LawfulRecords kit w.layout w.words (records_in w)
   records = lw.records
@@ -105,10 +106,11 @@ module _ {R W E M : Type 0} (kit : Kit R W E M) (by : Stepping R W E M) (laws : 
     layout = records.layout;
     width = records.width;
     says = records.says;
-    announcement = announcement;
+    spare = records.spare;
+    announcement = subst (IsAnnounced kit.minds l a c) (sym records.drawn) announcement;
     announced = records.announced;
-    unmarked = records.unmarked;
     rows = records.rows;
+    bare = records.bare;
     objects = records.objects;
     lens = records.lens;
     late = refl;

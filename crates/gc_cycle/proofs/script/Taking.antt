@@ -94,7 +94,7 @@ module _ {R W E M : Type 0} (kit : Kit R W E M) (by : Stepping R W E M) (laws : 
       inside : IsInside (length w.words) (asks_at kit by w party)
       inside =
           let records = lw.records in
-          let announcement = announced kit w.layout w.words (records_in w) records in
+          let announcement = announced kit laws.minds w.layout w.words (records_in w) records in
           subst (λ (len : ℕ). IsInside len (asks_at kit by w party)) (sym records.width)
           (inside_of kit by laws laws.cycle w.layout (announced_by records.collector) (cycle_of records.collector) records.space records.notices w.words (known_in w (pass_at w party)) (stands kit by laws w lw party is few_made announcement on))
 
@@ -102,7 +102,7 @@ module _ {R W E M : Type 0} (kit : Kit R W E M) (by : Stepping R W E M) (laws : 
       settles_by x at same end over =
           let records = lw.records in
           let script = lw.script in
-          let announcement = announced kit w.layout w.words (records_in w) records in
+          let announcement = announced kit laws.minds w.layout w.words (records_in w) records in
           let here : pass_at (stepped kit by w party) party ≡ fed_at kit by w party = at ∙ same in
           let ended : ended_of kit (let p = fed_at kit by w party in p.machine) ≡ Some end = ap (λ (y : PassRecord R W E). ended_of kit y.machine) (sym same) ∙ over in
           let can = concludes kit by laws w lw party is few_made announcement on end ended in

@@ -42,7 +42,7 @@ module _ {R W E M : Type 0} (kit : Kit R W E M) (by : Stepping R W E M) (laws : 
   thread_takes : IsPass w.layout party → asks_at kit by w party ≢ Ended → Turned (taken kit by w party)
   thread_takes is on =
       let records = lw.records in
-      thread_turn kit by laws w (scripted_of kit w lw) party is (has_stepped kit by laws w lw party is (made_few is) (announced kit w.layout w.words (records_in w) records) on)
+      thread_turn kit by laws w (scripted_of kit w lw) party is (has_stepped kit by laws w lw party is (made_few is) (announced kit laws.minds w.layout w.words (records_in w) records) on)
 
   -- a thread that takes no step has retired
   pub retired_at_end : IsPass w.layout party → asks_at kit by w party ≡ Ended → (let p = pass_at w party in p.machine) ≡ machine.Retired
@@ -53,12 +53,12 @@ module _ {R W E M : Type 0} (kit : Kit R W E M) (by : Stepping R W E M) (laws : 
       retired_is kit by laws w.layout (cycle_of records.collector) records.space records.notices (known_in w (pass_at w party)) (pass_at w party) (command_at w party) thread.at thread.going own.machine ended
 
   thread_rests : IsPass w.layout party → asks_at kit by w party ≡ Ended → Turned w
-  thread_rests is ended = turned_still kit by w (scripted_of kit w lw) party (still_retired kit by w party (retired_at_end is ended)) w.words w.collector w.awaited w.sealed w.moved lw.sealed
+  thread_rests is ended = turned_still kit by w (scripted_of kit w lw) party (still_retired kit by w party (retired_at_end is ended)) w.words w.collector w.awaited w.sealed w.moved w.finds w.marks lw.sealed
 
   collector_rests : is_collector kit by w party ≡ true → Turned w
   collector_rests is =
       let past : pass_at w party ≡ nobody = get_or_past w.passes (party - 1) nobody (omega (arith, lw.passes, ltb-true w.layout.passes party is)) in
-      turned_still kit by w (scripted_of kit w lw) party (still_idle kit by w party (ap (λ (x : PassRecord R W E). x.machine) past)) w.words w.collector w.awaited w.sealed w.moved lw.sealed
+      turned_still kit by w (scripted_of kit w lw) party (still_idle kit by w party (ap (λ (x : PassRecord R W E). x.machine) past)) w.words w.collector w.awaited w.sealed w.moved w.finds w.marks lw.sealed
 
   -- the step of a thread's turn is its machine's
   next_is : is_collector kit by w party ≡ false → next_of kit by w party ≡ asks_at kit by w party

@@ -33,11 +33,12 @@ use Rattle.gc_cycle.proofs.Acknowledging.{collector_record, acknowledged}
 use Rattle.gc_cycle.proofs.Running.{ready_is_party}
 use Rattle.gc_cycle.proofs.Playing.{is_ended-true, is_ended-false}
 use Rattle.gc_cycle.proofs.AllowedAnswers.{ready_if, ready_is, thread_steps, some_are}
-use Rattle.gc_cycle.proofs.solo.CollectorEnds.{left_of_collector, collector_falls}
-use Rattle.gc_cycle.proofs.solo.Left.{left, IsWanted, asks}
-use Rattle.gc_cycle.proofs.solo.PlaysAlone.{WantsNone, PlaysAlone}
-use Rattle.gc_cycle.proofs.solo.Standing.{unhindered}
-use Rattle.gc_cycle.proofs.solo.Turns.{machine_at, left_with, to_do, none_finds, Goes, turn_goes}
+use Rattle.gc_cycle.proofs.solo.CollectorEnds.{left_of_collector, MovesAlone, Falls, collector_falls, alone_at_start}
+use Rattle.gc_cycle.proofs.solo.Finding.{collector_finds}
+use Rattle.gc_cycle.proofs.solo.Left.{left, StandsAlone, asks}
+use Rattle.gc_cycle.proofs.solo.PlaysAlone.{PlaysAlone}
+use Rattle.gc_cycle.proofs.solo.Standing.{none_marked, unhindered}
+use Rattle.gc_cycle.proofs.solo.Turns.{machine_at, left_with, to_do, Goes, turn_goes}
 
 -- ---- numbers, tests and steps
 
@@ -50,14 +51,14 @@ not_true : (b : Bool) → not b ≡ true → b ≡ false
 not_true true e = absurd cc
 not_true false e = refl
 
--- one that wants a word has not ended
-wants_or_asks : (step : Step) → WantsNone step ⊎ (is_ended step ≡ false)
-wants_or_asks (steps.Load at) = inl tt
-wants_or_asks (steps.Store at put) = inl tt
-wants_or_asks (steps.Exchange at want put) = inr refl
-wants_or_asks (steps.Add at by) = inl tt
-wants_or_asks (steps.Sub at by) = inl tt
-wants_or_asks steps.Ended = inl tt
+-- a step is Ended or not
+ended_or_on : (step : Step) → (step ≡ Ended) ⊎ (is_ended step ≡ false)
+ended_or_on (steps.Load at) = inr refl
+ended_or_on (steps.Store at put) = inr refl
+ended_or_on (steps.Exchange at want put) = inr refl
+ended_or_on (steps.Add at by) = inr refl
+ended_or_on (steps.Sub at by) = inr refl
+ended_or_on steps.Ended = inl refl
 
 module _ {R W E M : Type 0} (kit : Kit R W E M) (by : Stepping R W E M) (alone : PlaysAlone kit by) where
   -- until all parties have ended
@@ -76,34 +77,35 @@ module _ {R W E M : Type 0} (kit : Kit R W E M) (by : Stepping R W E M) (alone :
 
   -- ---- what nobody else's steps disturb
 
-  -- no exchange of a field wants a word
-  abbrev pub WantsNoWord : PassMachine R W E → Type 0
-  WantsNoWord (machine.Exchange m) = WantsNone (by.exchange_asks m)
-  WantsNoWord m = Unit {0}
+  -- it is in no write and no exchange that goes on
+  abbrev pub IsOutside : PassMachine R W E → Type 0
+  IsOutside (machine.Write m) = by.write_asks m ≡ Ended
+  IsOutside (machine.Exchange m) = by.exchange_asks m ≡ Ended
+  IsOutside m = Unit {0}
 
-  none_wanted : (memory : ℕ → ℕ) (m : PassMachine R W E) → WantsNoWord m → IsWanted kit by memory m
-  none_wanted memory machine.Idle none = tt
-  none_wanted memory (machine.Poll m) none = tt
-  none_wanted memory (machine.New m) none = tt
-  none_wanted memory (machine.Read m) none = tt
-  none_wanted memory (machine.Write m) none = tt
-  none_wanted memory (machine.Exchange m) none = none_finds memory (by.exchange_asks m) none
-  none_wanted memory (machine.Retire m) none = tt
-  none_wanted memory machine.Retired none = tt
+  outside_stands : (memory : ℕ → ℕ) (m : PassMachine R W E) → asks kit by m ≢ Ended → IsOutside m → StandsAlone kit by alone memory m
+  outside_stands memory machine.Idle on outside = tt
+  outside_stands memory (machine.Poll m) on outside = tt
+  outside_stands memory (machine.New m) on outside = tt
+  outside_stands memory (machine.Read m) on outside = tt
+  outside_stands memory (machine.Write m) on outside = absurd (on outside)
+  outside_stands memory (machine.Exchange m) on outside = absurd (on outside)
+  outside_stands memory (machine.Retire m) on outside = tt
+  outside_stands memory machine.Retired on outside = tt
 
-  -- one whose exchange wants a word can step
-  wants_or_goes : (m : PassMachine R W E) → WantsNoWord m ⊎ (is_ended (asks kit by m) ≡ false)
-  wants_or_goes machine.Idle = inl tt
-  wants_or_goes (machine.Poll m) = inl tt
-  wants_or_goes (machine.New m) = inl tt
-  wants_or_goes (machine.Read m) = inl tt
-  wants_or_goes (machine.Write m) = inl tt
-  wants_or_goes (machine.Exchange m) = wants_or_asks (by.exchange_asks m)
-  wants_or_goes (machine.Retire m) = inl tt
-  wants_or_goes machine.Retired = inl tt
+  -- one that is in a call that goes on can step
+  outside_or_on : (m : PassMachine R W E) → IsOutside m ⊎ (is_ended (asks kit by m) ≡ false)
+  outside_or_on machine.Idle = inl tt
+  outside_or_on (machine.Poll m) = inl tt
+  outside_or_on (machine.New m) = inl tt
+  outside_or_on (machine.Read m) = inl tt
+  outside_or_on (machine.Write m) = ended_or_on (by.write_asks m)
+  outside_or_on (machine.Exchange m) = ended_or_on (by.exchange_asks m)
+  outside_or_on (machine.Retire m) = inl tt
+  outside_or_on machine.Retired = inl tt
 
-  ended_wants : (m : PassMachine R W E) → is_ended (asks kit by m) ≡ true → WantsNoWord m
-  ended_wants m ended = elim (wants_or_goes m) [ inl none ↦ none | inr goes ↦ absurd (cc (ended, goes)) ]
+  ended_outside : (m : PassMachine R W E) → is_ended (asks kit by m) ≡ true → IsOutside m
+  ended_outside m ended = elim (outside_or_on m) [ inl outside ↦ outside | inr goes ↦ absurd (cc (ended, goes)) ]
 
   -- ---- the parties that can step, in rising order
 
@@ -127,29 +129,38 @@ module _ {R W E M : Type 0} (kit : Kit R W E M) (by : Stepping R W E M) (alone :
 
   -- ---- alone
 
-  -- a thread's exchange wants no word, or it is the lowest that can step, and its exchange finds what it wants
+  -- nobody has raced a thread's call
+  abbrev Stands : State R W E M → ℕ → Type 0
+  Stands w q = StandsAlone kit by alone (reading w.words) (machine_at w q)
+
+  -- a thread is in no call that writes, or it is the lowest that can step, and nobody has raced its call
   abbrev pub IsAlone : State R W E M → ℕ → Type 0
-  IsAlone w q = WantsNoWord (machine_at w q) ⊎ ((q ≡ lowest (ready w)) × IsWanted kit by (reading w.words) (machine_at w q))
+  IsAlone w q = IsOutside (machine_at w q) ⊎ ((q ≡ lowest (ready w)) × Stands w q)
 
-  -- No exchange but that of the lowest thread that can step wants a word; and as long as a thread runs, the collector has not begun.
-  pub record IsSolo (cycles : ℕ) (w : State R W E M) : Type 0 where
+  -- the collector has not begun, or all threads have ended and nobody has raced its move
+  abbrev pub IsCollectorAlone : ℕ → ℕ → State R W E M → Type 0
+  IsCollectorAlone cycles salt w =
+      (w.collector ≡ collector_of kit w.layout cycles salt) ⊎ (((q : ℕ) → IsPass w.layout q → has_ended w q ≡ true) × MovesAlone kit by alone (reading w.words) w.collector)
+
+  -- No thread but the lowest that can step is in a call that writes; and as long as a thread runs, the collector has not begun.
+  pub record IsSolo (cycles salt : ℕ) (w : State R W E M) : Type 0 where
     pub threads : (q : ℕ) → IsPass w.layout q → IsAlone w q
-    pub collector : (w.collector ≡ collector_of kit w.layout cycles) ⊎ ((q : ℕ) → IsPass w.layout q → has_ended w q ≡ true)
+    pub collector : IsCollectorAlone cycles salt w
 
-  alone_wants : (w : State R W E M) (q : ℕ) → IsAlone w q → IsWanted kit by (reading w.words) (machine_at w q)
-  alone_wants w q (inl none) = none_wanted (reading w.words) (machine_at w q) none
-  alone_wants w q (inr goes) = goes.1
+  alone_stands : (w : State R W E M) (q : ℕ) → asks_at kit by w q ≢ Ended → IsAlone w q → Stands w q
+  alone_stands w q on (inl outside) = outside_stands (reading w.words) (machine_at w q) on outside
+  alone_stands w q on (inr goes) = goes.1
 
-  other_alone : (w : State R W E M) (q : ℕ) → q ≢ lowest (ready w) → IsAlone w q → WantsNoWord (machine_at w q)
-  other_alone w q apart (inl none) = none
-  other_alone w q apart (inr goes) = absurd (apart goes.0)
+  other_outside : (w : State R W E M) (q : ℕ) → q ≢ lowest (ready w) → IsAlone w q → IsOutside (machine_at w q)
+  other_outside w q apart (inl outside) = outside
+  other_outside w q apart (inr goes) = absurd (apart goes.0)
 
   -- there is less to do, and the next step is taken alone too
-  record Next (cycles : ℕ) (w new : State R W E M) : Type 0 where
-    solo : IsSolo cycles new
+  record Next (cycles salt : ℕ) (w new : State R W E M) : Type 0 where
+    solo : IsSolo cycles salt new
     less : all_to_do new < all_to_do w
 
-  module _ (laws : Laws kit by) (cycles : ℕ) (w : State R W E M) (lw : Lawful kit w) (solo : IsSolo cycles w) (on : is_over kit by w ≡ false) where
+  module _ (laws : Laws kit by) (cycles salt : ℕ) (w : State R W E M) (lw : Lawful kit w) (solo : IsSolo cycles salt w) (on : is_over kit by w ≡ false) where
     -- the party that takes the step
     abbrev first : ℕ
     first = lowest (ready w)
@@ -173,15 +184,15 @@ module _ {R W E M : Type 0} (kit : Kit R W E M) (by : Stepping R W E M) (alone :
       runs = thread_runs w first is_pass among
 
       -- the collector has not begun
-      waits : w.collector ≡ collector_of kit w.layout cycles
-      waits = elim solo.collector [ inl start ↦ start | inr idle ↦ absurd (cc (idle first is_pass, runs)) ]
+      waits : w.collector ≡ collector_of kit w.layout cycles salt
+      waits = elim solo.collector [ inl start ↦ start | inr idle ↦ absurd (cc (idle.0 first is_pass, runs)) ]
 
-      goes : Goes kit by w first (left kit by (machine_at w first)) new
+      goes : Goes kit by alone w first (left kit by (machine_at w first)) new
       goes =
           let asks_on : asks_at kit by w first ≢ Ended = is_ended-false (asks_at kit by w first) runs in
           let threads = lw.script.threads in
           let there : IsThere w first = record { least = is_pass.0; passes = omega (arith, is_pass.1, lw.passes); commands = omega (arith, is_pass.1, threads); answers = omega (arith, is_pass.1, threads, lw.room.threads) } in
-          turn_goes kit by alone w first there asks_on (unhindered kit by w lw first is_pass cycles waits asks_on) (alone_wants w first (solo.threads first is_pass))
+          turn_goes kit by alone w first there asks_on (none_marked kit w lw first is_pass cycles salt waits) (unhindered kit by laws w lw first is_pass cycles salt waits asks_on) (alone_stands w first asks_on (solo.threads first is_pass))
 
       -- it stays the lowest, as long as it can step
       still_lowest : has_ended new first ≡ false → first ≡ lowest (ready new)
@@ -202,16 +213,16 @@ module _ {R W E M : Type 0} (kit : Kit R W E M) (by : Stepping R W E M) (alone :
                 omega (arith, above, below)
           ]
 
-      its_alone : WantsNoWord (machine_at new first) ⊎ (has_ended new first ≡ false) → IsAlone new first
-      its_alone (inl none) = inl none
-      its_alone (inr goes_on) = inr (still_lowest goes_on, goes.wants)
+      its_alone : IsOutside (machine_at new first) ⊎ (has_ended new first ≡ false) → IsAlone new first
+      its_alone (inl outside) = inl outside
+      its_alone (inr goes_on) = inr (still_lowest goes_on, goes.stands)
 
       each_alone : (q : ℕ) → IsPass new.layout q → IsAlone new q
       each_alone q other =
           let is : IsPass w.layout q = subst (λ (l : Sizes). IsPass l q) goes.layout other in
           elim (eqb_tells q first) [
-            | inl same ↦ subst (λ (x : ℕ). IsAlone new x) (sym same.1) (its_alone (wants_or_goes (machine_at new first)))
-            | inr apart ↦ inl (subst (λ (x : PassRecord R W E). WantsNoWord x.machine) (sym (goes.passes q is.0 apart.1)) (other_alone w q apart.1 (solo.threads q is)))
+            | inl same ↦ subst (λ (x : ℕ). IsAlone new x) (sym same.1) (its_alone (outside_or_on (machine_at new first)))
+            | inr apart ↦ inl (subst (λ (x : PassRecord R W E). IsOutside x.machine) (sym (goes.passes q is.0 apart.1)) (other_outside w q apart.1 (solo.threads q is)))
           ]
 
       -- another thread has as much to do as before
@@ -248,10 +259,10 @@ module _ {R W E M : Type 0} (kit : Kit R W E M) (by : Stepping R W E M) (alone :
           ap (λ (l : Sizes). sum_by (to_do kit by new) (range_with_len 1 l.passes)) goes.layout in
           omega (arith, same, threads_less, ap (left_of_collector kit by alone) goes.collector)
 
-      thread_next : Next cycles w (turn w first)
+      thread_next : Next cycles salt w (turn w first)
       thread_next =
-          subst (Next cycles w) (sym (turn_takes w first can (le-ltb w.layout.passes first is_pass.1))) (record {
-            solo = record { threads = each_alone; collector = inl (goes.collector ∙ waits ∙ ap (λ (l : Sizes). collector_of kit l cycles) (sym goes.layout)) };
+          subst (Next cycles salt w) (sym (turn_takes w first can (le-ltb w.layout.passes first is_pass.1))) (record {
+            solo = record { threads = each_alone; collector = inl (goes.collector ∙ waits ∙ ap (λ (l : Sizes). collector_of kit l cycles salt) (sym goes.layout)) };
             less = thread_less;
           })
 
@@ -281,40 +292,49 @@ module _ {R W E M : Type 0} (kit : Kit R W E M) (by : Stepping R W E M) (alone :
       collector_on : collector_asks kit by w ≢ Ended
       collector_on = is_ended-false (collector_asks kit by w) (not_true _ (rw collects at can))
 
-      collector_less : all_to_do (collected kit by w) < all_to_do w
-      collector_less =
+      -- nobody has raced its move
+      moves_alone : MovesAlone kit by alone (reading w.words) w.collector
+      moves_alone = elim solo.collector [
+        | inl start ↦ subst (MovesAlone kit by alone (reading w.words)) (sym start) (alone_at_start kit by alone (reading w.words) w.layout cycles salt)
+        | inr idle ↦ idle.1
+      ]
+
+      falls : Falls kit by alone w.layout lw.records.layout (let its = collector_record kit w lw in its.cycles) w.words acks_ended w.collector
+      falls =
           let its = collector_record kit w lw in
           let plays = subst (λ k. IsCollector w.layout kit.kind its.cycles k) (sym its.machine) its.collects in
-          let falls = collector_falls kit by alone w.layout lw.records.layout its.cycles w.words acks_ended w.collector plays collector_on in
-          omega (arith, falls)
+          collector_falls kit by alone w.layout lw.records.layout its.cycles w.words acks_ended w.collector plays collector_on (collector_finds kit by laws w lw) moves_alone
 
-      collector_next : Next cycles w (turn w first)
-      collector_next = subst (Next cycles w) (sym (turn_collects w first can collects)) (record {
-        solo = record { threads = λ q is. inl (ended_wants (machine_at w q) (ended_is q is)); collector = inr ended_is };
+      collector_less : all_to_do (collected kit by w) < all_to_do w
+      collector_less = omega (arith, falls.0)
+
+      collector_next : Next cycles salt w (turn w first)
+      collector_next = subst (Next cycles salt w) (sym (turn_collects w first can collects)) (record {
+        solo = record { threads = λ q is. inl (ended_outside (machine_at w q) (ended_is q is)); collector = inr (ended_is, falls.1) };
         less = collector_less;
       })
 
-    next_is : Next cycles w (turn w first)
+    next_is : Next cycles salt w (turn w first)
     next_is = elim (cases_lt w.layout.passes first) [ inl above ↦ collector_next above | inr within ↦ thread_next (is_party.0, within) ]
 
   -- with as many turns as there is to do, all end
   abbrev pub turns : ℕ → State R W E M → State R W E M
   turns n w = turns_of kit by n choosers.Solo w
 
-  module _ (laws : Laws kit by) (cycles : ℕ) where
-    none_ends : (w : State R W E M) → Lawful kit w → IsSolo cycles w → all_to_do w ≤ 0 → (b : Bool) → is_over kit by w ≡ b → b ≡ true
+  module _ (laws : Laws kit by) (cycles salt : ℕ) where
+    none_ends : (w : State R W E M) → Lawful kit w → IsSolo cycles salt w → all_to_do w ≤ 0 → (b : Bool) → is_over kit by w ≡ b → b ≡ true
     none_ends w lw solo few true over = refl
-    none_ends w lw solo few false on = let next = next_is laws cycles w lw solo on in absurd (omega (arith, next.less, few))
+    none_ends w lw solo few false on = let next = next_is laws cycles salt w lw solo on in absurd (omega (arith, next.less, few))
 
-    next_ends : (n : ℕ) (w : State R W E M) → Lawful kit w → IsSolo cycles w → all_to_do w ≤ suc n
-        → ((x : State R W E M) → Lawful kit x → IsSolo cycles x → all_to_do x ≤ n → is_over kit by (turns n x) ≡ true)
+    next_ends : (n : ℕ) (w : State R W E M) → Lawful kit w → IsSolo cycles salt w → all_to_do w ≤ suc n
+        → ((x : State R W E M) → Lawful kit x → IsSolo cycles salt x → all_to_do x ≤ n → is_over kit by (turns n x) ≡ true)
         → (b : Bool) → is_over kit by w ≡ b → is_over kit by (cond b w (turns n (turn w (lowest (ready w))))) ≡ true
     next_ends n w lw solo few rest true over = over
     next_ends n w lw solo few rest false on =
-        let next = next_is laws cycles w lw solo on in
-        let lawful = turn_keeps kit by laws w lw (lowest (ready w)) (is_party laws cycles w lw solo on) in
+        let next = next_is laws cycles salt w lw solo on in
+        let lawful = turn_keeps kit by laws w lw (lowest (ready w)) (is_party laws cycles salt w lw solo on) in
         rest (turn w (lowest (ready w))) lawful next.solo (omega (arith, next.less, few))
 
-    pub turns_end : (n : ℕ) (w : State R W E M) → Lawful kit w → IsSolo cycles w → all_to_do w ≤ n → is_over kit by (turns n w) ≡ true
+    pub turns_end : (n : ℕ) (w : State R W E M) → Lawful kit w → IsSolo cycles salt w → all_to_do w ≤ n → is_over kit by (turns n w) ≡ true
     turns_end zero w lw solo few = none_ends w lw solo few (is_over kit by w) refl
     turns_end (suc n) w lw solo few = next_ends n w lw solo few (λ x h its less. turns_end n x h its less) (is_over kit by w) refl

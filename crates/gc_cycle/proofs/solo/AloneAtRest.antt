@@ -38,30 +38,38 @@ use Rattle.gc_cycle.proofs.solo.PlaysAlone.{FindsWanted, WriteGoesOn, ExchangeGo
 
 -- ---- a write
 
-header_writes : (spot : Spot) (word len : ℕ) (b : Bool) → WriteGoesOn (machine_of_write.end_of (if b then write.Field spot word else write.Ended spot word (write_end.Refused (refusal.NoField len))))
+-- it has not ended, or it has with an answer
+abbrev pub WriteOn : WriteMachine → Type 0
+WriteOn m = WriteGoesOn (Unit {0}) (machine_of_write.end_of m)
+
+header_writes : (spot : Spot) (word len : ℕ) (b : Bool) → WriteOn (if b then write.Field spot word else write.Ended spot word (write_end.Refused (refusal.NoField len)))
 header_writes spot word len true = tt
 header_writes spot word len false = tt
 
 -- with the word of a header at hand
-pub write_begins : (spot : Spot) (word header : ℕ) → WriteGoesOn (machine_of_write.end_of (machine_of_write.fed_of (write.Header spot word) header))
+pub write_begins : (spot : Spot) (word header : ℕ) → WriteOn (machine_of_write.fed_of (write.Header spot word) header)
 write_begins spot word header = let h = header_at header in header_writes spot word h.len (nat_lt spot.field h.len)
 
-pub writes_on : (m : WriteMachine) (n : ℕ) → machine_of_write.asks_of m ≢ Ended → WriteGoesOn (machine_of_write.end_of (machine_of_write.fed_of m n))
+pub writes_on : (m : WriteMachine) (n : ℕ) → machine_of_write.asks_of m ≢ Ended → WriteOn (machine_of_write.fed_of m n)
 writes_on (write.Header spot word) n on = write_begins spot word n
 writes_on (write.Field spot word) n on = tt
 writes_on (write.Ended spot word end) n on = absurd (on refl)
 
 -- ---- an exchange
 
+-- its next step finds what it wants
+abbrev pub StandsAlone : (ℕ → ℕ) → ExchangeMachine → Type 0
+StandsAlone memory m = FindsWanted memory (machine_of_exchange.asks_of m)
+
 -- what is known of an exchange that goes on
 abbrev pub GoesOn : (ℕ → ℕ) → ExchangeMachine → Type 0
-GoesOn memory m = ExchangeGoesOn memory (machine_of_exchange.asks_of m) (machine_of_exchange.end_of m)
+GoesOn memory m = ExchangeGoesOn (StandsAlone memory m) (machine_of_exchange.end_of m)
 
 -- a load changes no word
 pub load_same : (words : List ℕ) (at a : ℕ) → reading (applied (Load at) words) a ≡ reading words a
 load_same words at a = ap (λ (x : List ℕ). reading x a) (set-get_or words at 0)
 
-same_eqb : (a b : ℕ) → a ≡ b → (a == b) ≡ true
+pub same_eqb : (a b : ℕ) → a ≡ b → (a == b) ≡ true
 same_eqb a b e = grind (arith, nat_tests)
 
 module _ (memory : ℕ → ℕ) where
@@ -75,7 +83,7 @@ module _ (memory : ℕ → ℕ) where
   exchange_begins errand phase header = let h = header_at header in header_exchanges errand phase h.len (nat_lt errand.spot.field h.len)
 
   -- a value that differs is followed, where the phase asks so
-  follows_on : (errand : Errand) (its : FollowMachine) → GoesOn memory (exchange.Follow errand its)
+  pub follows_on : (errand : Errand) (its : FollowMachine) → GoesOn memory (exchange.Follow errand its)
   follows_on errand (follow.Header birth at) = tt
   follows_on errand (follow.Ended end) = tt
 
@@ -98,7 +106,7 @@ next words m = machine_of_exchange.fed_of m (found_by (machine_of_exchange.asks_
 abbrev after : List ℕ → ExchangeMachine → ℕ → ℕ
 after words m = reading (applied (machine_of_exchange.asks_of m) words)
 
-pub exchanges_on : (words : List ℕ) (m : ExchangeMachine) → machine_of_exchange.asks_of m ≢ Ended → FindsWanted (reading words) (machine_of_exchange.asks_of m) → GoesOn (after words m) (next words m)
+pub exchanges_on : (words : List ℕ) (m : ExchangeMachine) → machine_of_exchange.asks_of m ≢ Ended → StandsAlone (reading words) m → GoesOn (after words m) (next words m)
 exchanges_on words (exchange.Header errand phase) on wants = exchange_begins (after words (exchange.Header errand phase)) errand phase (reading words errand.spot.at)
 exchanges_on words (exchange.Field errand phase (plain.Load swap)) on wants =
     loads_on (after words (exchange.Field errand phase (plain.Load swap))) errand phase swap (reading words swap.place) (at_word.is_expected swap (reading words swap.place)) (load_same words swap.place swap.place)
@@ -129,10 +137,15 @@ rest_plays_alone = record {
   read_few = λ l v birth at field. lit≤ tt;
   write_few = λ l v birth at field word. lit≤ tt;
   exchange_few = λ l v birth at field expected word. lit≤ tt;
-  exchange_first = λ l v birth at field expected word. tt;
-  writes_on = writes_on;
-  exchanges_on = exchanges_on;
+  WriteAlone = λ memory m. Unit {0};
+  write_first = λ memory l v birth at field word unmarked. tt;
+  writes_on = λ words m on stands. writes_on m (found_by (machine_of_write.asks_of m) words) on;
+  ExchangeAlone = StandsAlone;
+  exchange_first = λ memory l v birth at field expected word unmarked. tt;
+  exchanges_on = λ words m on finds stands. exchanges_on words m on stands;
   move_left = left_of_move;
-  moves_fall = moves_fall;
-  move_few = λ l j mark job. lit≤ tt;
+  move_few = λ l j mark place. lit≤ tt;
+  MoveAlone = λ memory m. Unit {0};
+  move_first = λ memory l j mark place. tt;
+  moves_on = λ words m on finds stands. (moves_fall m (found_by (stays.asks_of m) words) on, tt);
 }

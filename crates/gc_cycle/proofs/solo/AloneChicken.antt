@@ -36,42 +36,50 @@ use Rattle.chicken_tags.specs.ChickenReads as machine_of_read
 use Rattle.chicken_tags.specs.ChickenWrites as machine_of_write
 use Rattle.chicken_tags.specs.Chickens.{kit_of_chicken, steps_of_chicken}
 use Rattle.gc_cycle.proofs.solo.AloneAtRest as rest
-use Rattle.gc_cycle.proofs.solo.PlaysAlone.{FindsWanted, WriteGoesOn, ExchangeGoesOn, PlaysAlone}
+use Rattle.gc_cycle.proofs.solo.PlaysAlone.{FindsWanted, WriteGoesOn, ExchangeGoesOn, most_move_steps, PlaysAlone}
 
 -- ---- a write
 
-placed_writes : (spot : Spot) (word header : ℕ) (it : Location) → WriteGoesOn (machine_of_write.end_of (machine_of_write.placed spot word header it))
+-- it has not ended, or it has with an answer
+abbrev WriteOn : ChickenWrite → Type 0
+WriteOn m = WriteGoesOn (Unit {0}) (machine_of_write.end_of m)
+
+placed_writes : (spot : Spot) (word header : ℕ) (it : Location) → WriteOn (machine_of_write.placed spot word header it)
 placed_writes spot word header location.Original = rest.write_begins spot word header
 placed_writes spot word header (location.Tagged keep) = rest.write_begins spot word header
 placed_writes spot word header (location.Wide wide) = rest.write_begins spot word header
 placed_writes spot word header (location.Copy copy) = rest.write_begins copy word header
 
-keeps_or_writes : (spot : Spot) (word header : ℕ) (it : Location) (next : ChickenWrite) (b : Bool) → WriteGoesOn (machine_of_write.end_of next)
-    → WriteGoesOn (machine_of_write.end_of (if b then next else machine_of_write.placed spot word header it))
+keeps_or_writes : (spot : Spot) (word header : ℕ) (it : Location) (next : ChickenWrite) (b : Bool) → WriteOn next
+    → WriteOn (if b then next else machine_of_write.placed spot word header it)
 keeps_or_writes spot word header it next true on = on
 keeps_or_writes spot word header it next false on = placed_writes spot word header it
 
-turned_writes : (spot : Spot) (word header : ℕ) (it : Location) → WriteGoesOn (machine_of_write.end_of (machine_of_write.turned spot word header it))
+turned_writes : (spot : Spot) (word header : ℕ) (it : Location) → WriteOn (machine_of_write.turned spot word header it)
 turned_writes spot word header location.Original = placed_writes spot word header location.Original
 turned_writes spot word header (location.Tagged keep) = keeps_or_writes spot word header (location.Tagged keep) (write.Keep spot word keep) (nat_lt spot.field (let h = header_at header in h.len)) tt
 turned_writes spot word header (location.Wide wide) = placed_writes spot word header (location.Wide wide)
 turned_writes spot word header (location.Copy copy) = placed_writes spot word header (location.Copy copy)
 
 -- at the word of its field it goes on as at rest
-word_writes : (m : Placed WriteMachine) (n : ℕ) → rest_write.asks_of (placeds.machine_of m) ≢ Ended → WriteGoesOn (rest_write.end_of (placeds.machine_of (placeds.fed_of rest_write.fed_of m n)))
+word_writes : (m : Placed WriteMachine) (n : ℕ) → rest_write.asks_of (placeds.machine_of m) ≢ Ended → rest.WriteOn (placeds.machine_of (placeds.fed_of rest_write.fed_of m n))
 word_writes (placed.Original m) n on = rest.writes_on m n on
 word_writes (placed.Copy spot m) n on = rest.writes_on m n on
 
-writes_on : (m : ChickenWrite) (n : ℕ) → machine_of_write.asks_of m ≢ Ended → WriteGoesOn (machine_of_write.end_of (machine_of_write.fed_of m n))
+writes_on : (m : ChickenWrite) (n : ℕ) → machine_of_write.asks_of m ≢ Ended → WriteOn (machine_of_write.fed_of m n)
 writes_on (write.Header spot word) n on = turned_writes spot word n (location_in spot n)
 writes_on (write.Keep spot word keep) n on = placed_writes spot word keep.tagged (location_in spot n)
 writes_on (write.Field m) n on = word_writes m n on
 
 -- ---- an exchange
 
+-- its next step finds what it wants
+abbrev StandsAlone : (ℕ → ℕ) → ChickenExchange → Type 0
+StandsAlone memory m = FindsWanted memory (machine_of_exchange.asks_of m)
+
 -- what is known of an exchange that goes on
 abbrev GoesOn : (ℕ → ℕ) → ChickenExchange → Type 0
-GoesOn memory m = ExchangeGoesOn memory (machine_of_exchange.asks_of m) (machine_of_exchange.end_of m)
+GoesOn memory m = ExchangeGoesOn (StandsAlone memory m) (machine_of_exchange.end_of m)
 
 module _ (memory : ℕ → ℕ) where
   placed_exchanges : (errand : Errand) (phase : Phase) (header : ℕ) (it : Location) → GoesOn memory (machine_of_exchange.placed errand phase header it)
@@ -109,12 +117,12 @@ abbrev after : List ℕ → ChickenExchange → ℕ → ℕ
 after words m = reading (applied (machine_of_exchange.asks_of m) words)
 
 -- at the word of its field it goes on as at rest
-word_exchanges : (words : List ℕ) (m : Placed ExchangeMachine) → rest_exchange.asks_of (placeds.machine_of m) ≢ Ended → FindsWanted (reading words) (rest_exchange.asks_of (placeds.machine_of m))
+word_exchanges : (words : List ℕ) (m : Placed ExchangeMachine) → rest_exchange.asks_of (placeds.machine_of m) ≢ Ended → rest.StandsAlone (reading words) (placeds.machine_of m)
     → GoesOn (after words (exchange.Field m)) (next words (exchange.Field m))
 word_exchanges words (placed.Original m) on wants = rest.exchanges_on words m on wants
 word_exchanges words (placed.Copy spot m) on wants = rest.exchanges_on words m on wants
 
-exchanges_on : (words : List ℕ) (m : ChickenExchange) → machine_of_exchange.asks_of m ≢ Ended → FindsWanted (reading words) (machine_of_exchange.asks_of m) → GoesOn (after words m) (next words m)
+exchanges_on : (words : List ℕ) (m : ChickenExchange) → machine_of_exchange.asks_of m ≢ Ended → StandsAlone (reading words) m → GoesOn (after words m) (next words m)
 exchanges_on words (exchange.Header errand phase) on wants =
     header_exchanges (after words (exchange.Header errand phase)) errand phase (reading words errand.spot.at) (rest.load_same words errand.spot.at errand.spot.at)
 exchanges_on words (exchange.Keep errand phase keep) on wants =
@@ -157,7 +165,7 @@ moves_fall (move.Forward job headers) n on = ends_left job headers n (n == heade
 moves_fall (move.GiveUp job headers header) n on = lit< tt
 moves_fall (move.Ended end) n on = absurd (on refl)
 
-begun_left : (job : MoveJob) (headers : Option MoveHeaders) → job.len ≤ 30 → left_of_move (machine_of_move.begun_by job headers) ≤ 64
+begun_left : (job : MoveJob) (headers : Option MoveHeaders) → job.len ≤ 30 → left_of_move (machine_of_move.begun_by job headers) ≤ most_move_steps
 begun_left job None few = lit≤ tt
 begun_left job (Some headers) few = omega (arith, few)
 
@@ -171,10 +179,15 @@ chicken_plays_alone = record {
   read_few = λ l v birth at field. lit≤ tt;
   write_few = λ l v birth at field word. lit≤ tt;
   exchange_few = λ l v birth at field expected word. lit≤ tt;
-  exchange_first = λ l v birth at field expected word. tt;
-  writes_on = writes_on;
-  exchanges_on = exchanges_on;
+  WriteAlone = λ memory m. Unit {0};
+  write_first = λ memory l v birth at field word unmarked. tt;
+  writes_on = λ words m on stands. writes_on m (found_by (machine_of_write.asks_of m) words) on;
+  ExchangeAlone = StandsAlone;
+  exchange_first = λ memory l v birth at field expected word unmarked. tt;
+  exchanges_on = λ words m on finds stands. exchanges_on words m on stands;
   move_left = left_of_move;
-  moves_fall = moves_fall;
-  move_few = λ l j mark job. begun_left j (machine_of_move.headers_of j) job.few;
+  move_few = λ l j mark place. begun_left j (machine_of_move.headers_of j) (let its = place.job in its.few);
+  MoveAlone = λ memory m. Unit {0};
+  move_first = λ memory l j mark place. tt;
+  moves_on = λ words m on finds stands. (moves_fall m (found_by (machine_of_move.asks_of m) words) on, tt);
 }

@@ -1,96 +1,59 @@
 -- Where all threads have ended, the collector ends with an announcement and a look at each pass for each of the five announcements of each
--- cycle that is left, and with the steps of the job of each.
-use Rattle.std.proofs.Common.{◌≡◌, ◌≢◌, ℕ, ◌+◌, ◌-◌, ◌*◌, ◌<◌, ◌≤◌, ◌==◌, Bool, true, false, List, Option, Some, None, refl, sym, ap, ◌∙◌, subst, arith}
+-- cycle that is left, and with the steps of the job and of the searches of each.
+use Rattle.std.proofs.Common.{◌≡◌, ◌≢◌, ℕ, ◌+◌, ◌-◌, ◌*◌, ◌<◌, ◌≤◌, ◌==◌, Bool, true, false, List, Option, Some, None, refl, sym, ap, subst, arith}
 use Rattle.std.specs.Prelude.{nat_lt, if◌then◌else◌}
-use Rattle.std.proofs.Math.Nat.{add-mul}
+use Rattle.std.proofs.Math.Nat.{mul-le-mul_right}
 use Rattle.std.proofs.lemmas.Bool.Decides.{nat_tests}
 use Rattle.std.proofs.lemmas.Bool.{eq-eqb}
-use Rattle.heap_words.specs.Layouts.{Sizes, IsLayout, IsPass, ack_at}
-use Rattle.call_steps.specs.Steps.{found_by}
+use Rattle.heap_words.specs.Layouts.{Sizes, IsLayout, IsPass, ack_at, first_word}
+use Rattle.call_steps.specs.Steps.{applied, found_by}
 use Rattle.call_steps.specs.StepLaws.{reading}
 use Rattle.handshakes.specs.declared.answer.AwaitEnd.TheVariants.{Answered, Retired, NotYet}
 use Rattle.handshakes.specs.declared.answer.AwaitMachine.{AwaitMachine}
 use Rattle.handshakes.specs.declared.answer.AwaitMachine.TheVariants as await
 use Rattle.handshakes.specs.PhaseWords.{retired_word}
 use Rattle.object_headers.specs.declared.change.Kind.{Kind}
+use Rattle.object_headers.specs.declared.change.Kind.TheVariants as kinds
+use Rattle.object_headers.specs.Changes.{is_clover}
+use Rattle.mark_search.specs.declared.seek.SeekEnd.{SeekEnd}
+use Rattle.mark_search.specs.declared.seek.SeekEnd.TheVariants.{Clear, MarkFound}
+use Rattle.mark_search.specs.declared.seek.SeekMarkMachine.{SeekMarkMachine}
+use Rattle.mark_search.specs.Seeks as seeking
 use Rattle.space_reclaim.specs.declared.move_job.MoveJob.{MoveJob}
 use Rattle.barriers.specs.declared.ends.MoveEnd.{MoveEnd}
-use Rattle.barriers.specs.MoveSteps.{IsJob}
 use Rattle.barriers.specs.Kits.{Kit, Stepping}
-use Rattle.lawful_records.specs.declared.collector.Announcement.{Announcement}
-use Rattle.lawful_records.specs.declared.collector.Announcement.TheVariants.{Mark, Confirm, Copy, Fix, Free}
-use Rattle.lawful_records.specs.declared.collector.Stage.{Stage}
+use Rattle.lawful_records.specs.declared.stage.Announcement.{Announcement}
+use Rattle.lawful_records.specs.declared.stage.Announcement.TheVariants.{Mark, Confirm, Search, Copy, Fix, Free}
+use Rattle.lawful_records.specs.declared.stage.Stage.{Stage}
 use Rattle.lawful_records.specs.declared.collector.CollectorMachine.{CollectorMachine}
 use Rattle.lawful_records.specs.declared.collector.CollectorMachine.TheVariants as collector
-use Rattle.lawful_records.specs.Collectors.{word_of, planned, asks_of, fed_of, look, looked, awaited, to_copy, to_fix, behind_by, moved_by, stage_at_start, collector_of, passed_of}
-use Rattle.lawful_records.specs.Handshakes.{IsCollector, IsAwait, IsWork}
-use Rattle.lawful_records.specs.Jobs.{first_job}
+use Rattle.lawful_records.specs.Collectors.{word_of, mark_word, planned, asks_of, fed_of, look, looked, awaited, announce, searched, seek_at, sought, to_tag, to_fix, move_at, behind_by, moved_by, stage_at_start, collector_of, passed_of}
+use Rattle.lawful_records.specs.Handshakes.{IsCollector, IsAwait, IsSeek, IsWork}
+use Rattle.lawful_records.specs.declared.stage.TheConstants.{SEARCHES}
+use Rattle.lawful_records.specs.declared.job.TheConstants.{FILLED}
+use Rattle.lawful_records.specs.Cycling.{announced_by}
+use Rattle.lawful_records.specs.Jobs.{wide_for, first_job}
 use Rattle.lawful_records.proofs.collecting.FirstJobs.{first_job_is, is_job}
 use Rattle.call_steps.specs.declared.step.Step.TheVariants.{Ended}
-use Rattle.gc_cycle.proofs.solo.PlaysAlone.{PlaysAlone}
+use Rattle.gc_cycle.proofs.solo.CycleSteps.{after_in, work_steps, job_steps, cycles_after, steps_each, search_steps, said_after, rest_after, searches_after, onward_left, left_after, says_next, says_after, at_most, none_of, fewer_searches, searches_next}
+use Rattle.gc_cycle.proofs.solo.Finding.{CollectorFinds}
+use Rattle.gc_cycle.proofs.solo.SearchEnds.{seek_left, seek_falls}
+use Rattle.gc_cycle.proofs.solo.PlaysAlone.{most_move_steps, HasPlace, PlaysAlone}
 
--- ---- how many steps it takes at most, where each look finds that its pass has ended
+-- ---- jobs
 
--- how many announcements of a cycle come after this one
-abbrev after_in : Announcement → ℕ
-after_in Mark = 4
-after_in Confirm = 3
-after_in Copy = 2
-after_in Fix = 1
-after_in Free = 0
+-- the job that a stage's cycle has is one, whose copy has a place of its own
+apart_from_wide : (kind : Kind) (l : Sizes) → IsLayout l → first_word l FILLED ≢ wide_for kind l
+apart_from_wide kinds.Stopless l fits same = let own : 1 * l.quota ≤ l.passes * l.quota = mul-le-mul_right l.quota fits.passes.0 in omega (arith, same, own, fits.quota.0, fits.pool.0)
+apart_from_wide kinds.Chicken l fits same = omega (arith, same)
+apart_from_wide kinds.AtRest l fits same = omega (arith, same)
+apart_from_wide kinds.Clover l fits same = omega (arith, same)
 
--- the steps of a cycle's job: three before Copy is announced, which tag its object, and at most 64 before Fix is, which move it
-abbrev pub job_steps : ℕ
-job_steps = 3 + 64
+first_has_place : (kind : Kind) (l : Sizes) → IsLayout l → HasPlace (first_job kind l)
+first_has_place kind l fits = record { job = is_job l fits kind; from = λ same. omega (arith, same); wide = apart_from_wide kind l fits }
 
--- those of them that come after this announcement
-abbrev job_after : Announcement → ℕ
-job_after Mark = job_steps
-job_after Confirm = job_steps
-job_after Copy = 64
-job_after Fix = 0
-job_after Free = 0
-
--- the cycles that come after a stage's
-abbrev cycles_after : Stage → ℕ
-cycles_after s = s.cycles - s.cycle
-
--- an announcement and a look at each pass
-abbrev steps_each : Stage → ℕ
-steps_each s = 1 + s.layout.passes
-
--- the steps of all announcements that come after this one
-abbrev said_after : Announcement → Stage → ℕ
-said_after a s = (after_in a + 5 * cycles_after s) * steps_each s
-
--- and those of the jobs
-abbrev jobs_after : Announcement → Stage → ℕ
-jobs_after a s = job_after a + job_steps * cycles_after s
-
-abbrev left_after : Announcement → Stage → ℕ
-left_after a s = said_after a s + jobs_after a s
-
--- one more of so many steps
-one_more : (n rest each : ℕ) → n ≡ rest + 1 → each + rest * each ≡ n * each
-one_more n rest each is = rw is (omega (arith, add-mul rest 1 each))
-
--- where one announcement is said, and no more steps of jobs are left than before
-says_next : (n rest each jobs fewer : ℕ) → n ≡ rest + 1 → fewer ≤ jobs → each + (rest * each + fewer) ≤ n * each + jobs
-says_next n rest each jobs fewer is less = omega (arith, one_more n rest each is, less)
-
--- likewise with some steps before it
-says_after : (n rest each jobs fewer extra : ℕ) → n ≡ rest + 1 → extra + fewer ≤ jobs → extra + (each + (rest * each + fewer)) ≤ n * each + jobs
-says_after n rest each jobs fewer extra is less = omega (arith, one_more n rest each is, less)
-
-at_most : (extra most rest all : ℕ) → extra ≤ most → most + rest ≤ all → extra + rest ≤ all
-at_most extra most rest all few within = omega (arith, few, within)
-
-none_of : (most rest all : ℕ) → most + rest ≤ all → rest ≤ all
-none_of most rest all within = omega (arith, within)
-
--- the job that a stage's cycle has is one
-job_planned : (s : Stage) (job : MoveJob) → IsLayout s.layout → planned s ≡ Some job → IsJob job
-job_planned s job fits e = let first = first_job_is s.kind s.layout s.cycle job e in subst IsJob (sym first.is) (is_job s.layout fits)
+job_planned : (s : Stage) (job : MoveJob) → IsLayout s.layout → planned s ≡ Some job → HasPlace job
+job_planned s job fits e = let first = first_job_is s.kind s.layout s.cycle job e in subst HasPlace (sym first.is) (first_has_place s.kind s.layout fits)
 
 module _ {R W E M : Type 0} (kit : Kit R W E M) (by : Stepping R W E M) (alone : PlaysAlone kit by) where
   -- from an announcement on
@@ -101,11 +64,22 @@ module _ {R W E M : Type 0} (kit : Kit R W E M) (by : Stepping R W E M) (alone :
   abbrev pub left_of_collector : CollectorMachine M → ℕ
   left_of_collector (collector.Announce s) = announced_left s
   left_of_collector (collector.Await s pass m) = steps_each s - pass + left_after s.announcement s
-  left_of_collector (collector.Source s job) = 3 + announced_left s
-  left_of_collector (collector.Target s job) = 2 + announced_left s
+  left_of_collector (collector.Draw s) = 1 + announced_left s
+  left_of_collector (collector.Seek s m) = seek_left m + onward_left Search s
+  left_of_collector (collector.Source s job) = work_steps + announced_left s
+  left_of_collector (collector.Target s job) = 2 + most_move_steps + announced_left s
   left_of_collector (collector.Tag s job) = 1 + announced_left s
   left_of_collector (collector.Move s job m) = alone.move_left m + announced_left s
   left_of_collector (collector.Done s) = 0
+
+  -- what is known of memory and of its mover
+  abbrev pub MovesAlone : (ℕ → ℕ) → CollectorMachine M → Type 0
+  MovesAlone memory (collector.Move s job m) = alone.MoveAlone memory m
+  MovesAlone memory k = Unit {0}
+
+  -- it has fewer steps left than before
+  abbrev FallsTo : ℕ → (ℕ → ℕ) → CollectorMachine M → Type 0
+  FallsTo before memory k = (left_of_collector k < before) × MovesAlone memory k
 
   -- ---- what comes after a stage
 
@@ -115,33 +89,84 @@ module _ {R W E M : Type 0} (kit : Kit R W E M) (by : Stepping R W E M) (alone :
   left_after_free s true is =
       let some : s.cycle < s.cycles = grind (arith, nat_tests) in
       let next : Stage = record s { cycle = s.cycle + 1 } in
-      says_next (after_in Free + 5 * cycles_after s) (after_in Mark + 5 * cycles_after next) (steps_each s) (jobs_after Free s) (jobs_after Mark next) (omega (arith, some)) (omega (arith, some))
+      let searches : SEARCHES + SEARCHES * cycles_after next ≡ 0 + SEARCHES * cycles_after s = omega (arith, some) in
+      let same : searches_after Mark next ≡ searches_after Free s = ap (λ n. n * search_steps s.layout) searches in
+      says_next (after_in Free + 5 * cycles_after s) (after_in Mark + 5 * cycles_after next) (steps_each s) (rest_after Free s) (rest_after Mark next) (omega (arith, some)) (omega (arith, some, same))
   left_after_free s false is = omega arith
 
   -- before Copy is said the object of a job is tagged
-  says_copy : (s : Stage) → 3 + announced_left (record s { announcement = Copy }) ≤ left_after Confirm s
-  says_copy s = says_after (3 + 5 * cycles_after s) (2 + 5 * cycles_after s) (steps_each s) (jobs_after Confirm s) (jobs_after Copy s) 3 (omega arith) (omega arith)
+  says_copy : (s : Stage) → work_steps + announced_left (record s { announcement = Copy }) ≤ left_after Confirm s
+  says_copy s =
+      let fewer = fewer_searches 0 SEARCHES (cycles_after s) (search_steps s.layout) (omega arith) in
+      says_after (3 + 5 * cycles_after s) (2 + 5 * cycles_after s) (steps_each s) (rest_after Confirm s) (rest_after Copy s) work_steps (omega arith) (omega (arith, fewer))
 
-  left_to_copy : (s : Stage) (job : Option MoveJob) → left_of_collector (to_copy job s) ≤ left_after Confirm s
-  left_to_copy s None = none_of 3 (announced_left (record s { announcement = Copy })) (left_after Confirm s) (says_copy s)
-  left_to_copy s (Some job) = says_copy s
+  left_to_tag : (s : Stage) (job : Option MoveJob) → left_of_collector (to_tag job s) ≤ left_after Confirm s
+  left_to_tag s None = none_of work_steps (announced_left (record s { announcement = Copy })) (left_after Confirm s) (says_copy s)
+  left_to_tag s (Some job) = says_copy s
+
+  -- or a search begins
+  left_to_copy : (s : Stage) (job : Option MoveJob) (marked : Bool) → left_of_collector (if marked then collector.Draw (searched s 1) else to_tag job s) ≤ left_after Confirm s
+  left_to_copy s job true = omega (arith, searches_next SEARCHES (SEARCHES - 1) (cycles_after s) (search_steps s.layout) (omega arith))
+  left_to_copy s job false = left_to_tag s job
+
+  left_to_seek : (s : Stage) → left_of_collector (seek_at s) ≤ left_after Search s
+  left_to_seek s = omega arith
 
   -- before Fix is said it is moved
-  says_fix : (s : Stage) → 64 + announced_left (record s { announcement = Fix }) ≤ left_after Copy s
-  says_fix s = says_after (2 + 5 * cycles_after s) (1 + 5 * cycles_after s) (steps_each s) (jobs_after Copy s) (jobs_after Fix s) 64 (omega arith) (omega arith)
+  says_fix : (s : Stage) → work_steps + announced_left (record s { announcement = Fix }) ≤ left_after Copy s
+  says_fix s = says_after (2 + 5 * cycles_after s) (1 + 5 * cycles_after s) (steps_each s) (rest_after Copy s) (rest_after Fix s) work_steps (omega arith) (omega arith)
+
+  few_moves : (l : Sizes) (job : MoveJob) (mark : ℕ) → HasPlace job → alone.move_left (kit.starts_move l job mark) ≤ work_steps
+  few_moves l job mark place = let few = alone.move_few l job mark place in omega (arith, few)
+
+  left_to_move : (s : Stage) (job : MoveJob) → HasPlace job → (marked : Bool)
+      → left_of_collector (if marked then collector.Source (record s { announcement = Fix }) job else move_at kit (record s { announcement = Fix }) job) ≤ left_after Copy s
+  left_to_move s job place true = says_fix s
+  left_to_move s job place false =
+      at_most (alone.move_left (kit.starts_move s.layout job (mark_word s))) work_steps (announced_left (record s { announcement = Fix })) (left_after Copy s) (few_moves s.layout job (mark_word s) place) (says_fix s)
 
   left_to_fix : (s : Stage) → IsLayout s.layout → (job : Option MoveJob) → planned s ≡ job → left_of_collector (to_fix kit job s) ≤ left_after Copy s
-  left_to_fix s fits None is = none_of 64 (announced_left (record s { announcement = Fix })) (left_after Copy s) (says_fix s)
-  left_to_fix s fits (Some job) is =
-      let few = alone.move_few s.layout job 0 (job_planned s job fits is) in
-      at_most (alone.move_left (kit.starts_move s.layout job 0)) 64 (announced_left (record s { announcement = Fix })) (left_after Copy s) few (says_fix s)
+  left_to_fix s fits None is = none_of work_steps (announced_left (record s { announcement = Fix })) (left_after Copy s) (says_fix s)
+  left_to_fix s fits (Some job) is = left_to_move s job (job_planned s job fits is) (is_clover s.kind)
 
   left_after_is : (a : Announcement) (s : Stage) → IsLayout s.layout → left_of_collector (behind_by kit a s) ≤ left_after a s
-  left_after_is Mark s fits = says_next (4 + 5 * cycles_after s) (3 + 5 * cycles_after s) (steps_each s) (jobs_after Mark s) (jobs_after Confirm s) (omega arith) (omega arith)
-  left_after_is Confirm s fits = left_to_copy s (planned s)
+  left_after_is Mark s fits = says_next (4 + 5 * cycles_after s) (3 + 5 * cycles_after s) (steps_each s) (rest_after Mark s) (rest_after Confirm s) (omega arith) (omega arith)
+  left_after_is Confirm s fits = left_to_copy s (planned s) (is_clover s.kind)
+  left_after_is Search s fits = left_to_seek s
   left_after_is Copy s fits = left_to_fix s fits (planned s) refl
-  left_after_is Fix s fits = says_next (1 + 5 * cycles_after s) (0 + 5 * cycles_after s) (steps_each s) (jobs_after Fix s) (jobs_after Free s) (omega arith) (omega arith)
+  left_after_is Fix s fits = says_next (1 + 5 * cycles_after s) (0 + 5 * cycles_after s) (steps_each s) (rest_after Fix s) (rest_after Free s) (omega arith) (omega arith)
   left_after_is Free s fits = left_after_free s (nat_lt s.cycle s.cycles) refl
+
+  -- ---- a mover that begins
+
+  module _ (memory : ℕ → ℕ) where
+    free_alone : (s : Stage) (more : Bool) → MovesAlone memory (if more then collector.Announce (record s { cycle = s.cycle + 1; announcement = Mark }) else collector.Done s)
+    free_alone s true = tt
+    free_alone s false = tt
+
+    tag_alone : (s : Stage) (job : Option MoveJob) → MovesAlone memory (to_tag job s)
+    tag_alone s None = tt
+    tag_alone s (Some job) = tt
+
+    copy_alone : (s : Stage) (job : Option MoveJob) (marked : Bool) → MovesAlone memory (if marked then collector.Draw (searched s 1) else to_tag job s)
+    copy_alone s job true = tt
+    copy_alone s job false = tag_alone s job
+
+    move_alone : (s : Stage) (job : MoveJob) → HasPlace job → (marked : Bool) → MovesAlone memory (if marked then collector.Source (record s { announcement = Fix }) job else move_at kit (record s { announcement = Fix }) job)
+    move_alone s job place true = tt
+    move_alone s job place false = alone.move_first memory s.layout job (mark_word s) place
+
+    fix_alone : (s : Stage) → IsLayout s.layout → (job : Option MoveJob) → planned s ≡ job → MovesAlone memory (to_fix kit job s)
+    fix_alone s fits None is = tt
+    fix_alone s fits (Some job) is = move_alone s job (job_planned s job fits is) (is_clover s.kind)
+
+    behind_alone : (a : Announcement) (s : Stage) → IsLayout s.layout → MovesAlone memory (behind_by kit a s)
+    behind_alone Mark s fits = tt
+    behind_alone Confirm s fits = copy_alone s (planned s) (is_clover s.kind)
+    behind_alone Search s fits = tt
+    behind_alone Copy s fits = fix_alone s fits (planned s) refl
+    behind_alone Fix s fits = tt
+    behind_alone Free s fits = free_alone s (nat_lt s.cycle s.cycles)
 
   -- ---- a look
 
@@ -156,58 +181,120 @@ module _ {R W E M : Type 0} (kit : Kit R W E M) (by : Stepping R W E M) (alone :
   look_ends s pass found is =
       awaits_on s pass (await.Acknowledgement (ack_at pass) pass (word_of s)) found (found == word_of s) (found == retired_word) (eq-eqb found retired_word is)
 
-  awaited_falls : (s : Stage) (pass : ℕ) (more : Bool) → IsLayout s.layout → pass < steps_each s → nat_lt pass s.layout.passes ≡ more
-      → left_of_collector (if more then look s (pass + 1) else behind_by kit s.announcement s) < steps_each s - pass + left_after s.announcement s
-  awaited_falls s pass true fits within is = omega (arith, within)
-  awaited_falls s pass false fits within is = omega (arith, within, left_after_is s.announcement s fits)
+  awaited_falls : (memory : ℕ → ℕ) (s : Stage) (pass : ℕ) (more : Bool) → IsLayout s.layout → pass < steps_each s → nat_lt pass s.layout.passes ≡ more
+      → FallsTo (steps_each s - pass + left_after s.announcement s) memory (if more then look s (pass + 1) else behind_by kit s.announcement s)
+  awaited_falls memory s pass true fits within is = (omega (arith, within), tt)
+  awaited_falls memory s pass false fits within is = (omega (arith, within, left_after_is s.announcement s fits), behind_alone memory s.announcement s fits)
 
   -- ---- a move
 
-  moved_falls : (s : Stage) (job : MoveJob) (m : M) (before : ℕ) (end : Option MoveEnd) → alone.move_left m < before → left_of_collector (moved_by kit s job m end) < before + announced_left s
-  moved_falls s job m before None less = omega (arith, less)
-  moved_falls s job m before (Some end) less = omega (arith, less)
+  moved_falls : (memory : ℕ → ℕ) (s : Stage) (job : MoveJob) (m : M) (before : ℕ) (end : Option MoveEnd) → (alone.move_left m < before) × alone.MoveAlone memory m
+      → FallsTo (before + announced_left s) memory (moved_by kit s job m end)
+  moved_falls memory s job m before None on = (omega (arith, on.0), on.1)
+  moved_falls memory s job m before (Some end) on = (omega (arith, on.0), tt)
+
+  -- the words of a job's regions are stored
+  targeted_falls : (memory : ℕ → ℕ) (s : Stage) (job : MoveJob) → HasPlace job → (marked : Bool) → FallsTo (2 + most_move_steps + announced_left s) memory (if marked then move_at kit s job else collector.Tag s job)
+  targeted_falls memory s job place true = let few = alone.move_few s.layout job (mark_word s) place in (omega (arith, few), alone.move_first memory s.layout job (mark_word s) place)
+  targeted_falls memory s job place false = (omega arith, tt)
+
+  -- ---- a search
+
+  -- a field held the candidate: the next one is drawn, and after the last Fix is said
+  found_falls : (memory : ℕ → ℕ) (s : Stage) (before : ℕ) (more : Bool) → nat_lt s.marks.round SEARCHES ≡ more → 0 < before
+      → FallsTo (before + onward_left Search s) memory (if more then collector.Draw (searched s (s.marks.round + 1)) else announce s Fix)
+  found_falls memory s before true is some =
+      let again : s.marks.round < SEARCHES = grind (arith, nat_tests) in
+      let next = searches_next (SEARCHES - s.marks.round) (SEARCHES - (s.marks.round + 1)) (cycles_after s) (search_steps s.layout) (omega (arith, again)) in
+      (omega (arith, some, next), tt)
+  found_falls memory s before false is some =
+      let fewer = fewer_searches 0 (SEARCHES - s.marks.round) (cycles_after s) (search_steps s.layout) (omega arith) in
+      let said = says_next (3 + 5 * cycles_after s) (2 + 5 * cycles_after s) (steps_each s) (rest_after Search s) (rest_after Fix s) (omega arith) (omega (arith, fewer)) in
+      let less : said_after Fix s ≤ said_after Copy s = mul-le-mul_right (steps_each s) (omega arith) in
+      (omega (arith, some, said, less), tt)
+
+  clear_left : (s : Stage) → announced_left (record s { announcement = Copy; marks = record s.marks { clear = true } }) ≤ onward_left Search s
+  clear_left s =
+      let fewer = fewer_searches 0 (SEARCHES - s.marks.round) (cycles_after s) (search_steps s.layout) (omega arith) in
+      says_next (3 + 5 * cycles_after s) (2 + 5 * cycles_after s) (steps_each s) (rest_after Search s) (rest_after Copy s) (omega arith) (omega (arith, fewer))
+
+  sought_falls : (memory : ℕ → ℕ) (s : Stage) (m : SeekMarkMachine) (before : ℕ) (end : Option SeekEnd) → seek_left m < before → FallsTo (before + onward_left Search s) memory (sought s m end)
+  sought_falls memory s m before None less = (omega (arith, less), tt)
+  sought_falls memory s m before (Some Clear) less = (omega (arith, less, clear_left s), tt)
+  sought_falls memory s m before (Some (MarkFound place)) less = found_falls memory s before (nat_lt s.marks.round SEARCHES) refl (omega (arith, less))
 
   -- ---- its step
 
   module _ (l : Sizes) (fits : IsLayout l) (cycles : ℕ) (words : List ℕ) (ended : (pass : ℕ) → IsPass l pass → reading words (ack_at pass) ≡ retired_word) where
+    -- what its step goes on to, and memory then
+    abbrev pub next : CollectorMachine M → CollectorMachine M
+    next k = fed_of kit by.move_fed k (found_by (asks_of by.move_asks k) words)
+
+    abbrev pub memory_after : CollectorMachine M → ℕ → ℕ
+    memory_after k = reading (applied (asks_of by.move_asks k) words)
+
     -- there are fewer steps left
-    abbrev Falls : CollectorMachine M → Type 0
-    Falls k = left_of_collector (fed_of kit by.move_fed k (found_by (asks_of by.move_asks k) words)) < left_of_collector k
+    abbrev pub Falls : CollectorMachine M → Type 0
+    Falls k = FallsTo (left_of_collector k) (memory_after k) (next k)
 
     look_falls : (s : Stage) (pass : ℕ) → s.layout ≡ l → IsPass l pass → Falls (look s pass)
     look_falls s pass layout there =
         let passes : s.layout.passes ≡ l.passes = ap (λ (x : Sizes). x.passes) layout in
-        let less = awaited_falls s pass (nat_lt pass s.layout.passes) (subst IsLayout (sym layout) fits) (omega (arith, there.1, passes)) refl in
-        subst (λ (k : CollectorMachine M). left_of_collector k < left_of_collector (look s pass)) (sym (look_ends s pass (reading words (ack_at pass)) (ended pass there))) less
+        let less = awaited_falls (memory_after (look s pass)) s pass (nat_lt pass s.layout.passes) (subst IsLayout (sym layout) fits) (omega (arith, there.1, passes)) refl in
+        subst (FallsTo (left_of_collector (look s pass)) (memory_after (look s pass))) (sym (look_ends s pass (reading words (ack_at pass)) (ended pass there))) less
+
+    work_place : (next : Announcement) (s : Stage) (job : MoveJob) → IsWork l kit.kind cycles next s job → HasPlace job
+    work_place next s job is = job_planned s job (subst IsLayout (sym is.stage.layout) fits) is.job_is
 
     -- a step of a collector that has not played its cycles
-    pub collector_falls : (k : CollectorMachine M) → IsCollector l kit.kind cycles k → asks_of by.move_asks k ≢ Ended → Falls k
-    collector_falls (collector.Announce s) is on = omega arith
-    collector_falls (collector.Await s pass m) is on =
+    pub collector_falls : (k : CollectorMachine M) → IsCollector l kit.kind cycles k → asks_of by.move_asks k ≢ Ended → CollectorFinds kit by words k → MovesAlone (reading words) k → Falls k
+    collector_falls (collector.Announce s) is on finds stands = (omega arith, tt)
+    collector_falls (collector.Await s pass m) is on finds stands =
         let await : IsAwait l kit.kind cycles s pass m = is in
         subst (λ (m : AwaitMachine). Falls (collector.Await s pass m)) (sym await.look) (look_falls s pass await.stage.layout await.in_layout)
-    collector_falls (collector.Source s job) is on = omega arith
-    collector_falls (collector.Target s job) is on = omega arith
-    collector_falls (collector.Tag s job) is on = omega arith
-    collector_falls (collector.Move s job m) is on =
-        let n : ℕ = found_by (by.move_asks m) words in
-        moved_falls s job (by.move_fed m n) (alone.move_left m) (kit.move_ended (by.move_fed m n)) (alone.moves_fall m n on)
-    collector_falls (collector.Done s) is on = absurd (on refl)
+    collector_falls (collector.Draw s) is on finds stands = (omega arith, tt)
+    collector_falls (collector.Seek s m) is on finds stands =
+        let seeks : IsSeek l kit.kind cycles s m = is in
+        let found : ℕ = found_by (seeking.asks_of m) words in
+        sought_falls (memory_after (collector.Seek s m)) s (seeking.fed_of m found) (seek_left m) (seeking.end_of (seeking.fed_of m found)) (seek_falls l (mark_word s) m found seeks.seeks)
+    collector_falls (collector.Source s job) is on finds stands = (omega arith, tt)
+    collector_falls (collector.Target s job) is on finds stands = targeted_falls (memory_after (collector.Target s job)) s job (work_place _ s job is) (is_clover s.kind)
+    collector_falls (collector.Tag s job) is on finds stands = (omega arith, tt)
+    collector_falls (collector.Move s job m) is on finds stands =
+        let fed : M = by.move_fed m (found_by (by.move_asks m) words) in
+        moved_falls (memory_after (collector.Move s job m)) s job fed (alone.move_left m) (kit.move_ended fed) (alone.moves_on words m on finds stands)
+    collector_falls (collector.Done s) is on finds stands = absurd (on refl)
 
   -- ---- the start
 
-  -- five announcements and the job of each cycle
-  pub left_at_start : (l : Sizes) (cycles : ℕ) → left_of_collector (collector_of kit l cycles) ≤ 5 * cycles * (1 + l.passes) + job_steps * cycles
-  left_at_start l cycles =
-      let s : Stage = stage_at_start kit.kind l cycles in
+  -- five announcements, the job and eight searches of each cycle
+  pub left_at_start : (l : Sizes) (cycles salt : ℕ) → left_of_collector (collector_of kit l cycles salt) ≤ 5 * cycles * (1 + l.passes) + (job_steps * cycles + SEARCHES * cycles * search_steps l)
+  left_at_start l cycles salt =
+      let s : Stage = stage_at_start kit.kind l cycles salt in
       let all : after_in Free + 5 * cycles_after s ≡ 5 * cycles = omega arith in
-      omega (arith, left_after_free s (nat_lt 0 cycles) refl, ap (λ n. n * (1 + l.passes)) all)
+      let searches : 0 + SEARCHES * cycles_after s ≡ SEARCHES * cycles = omega arith in
+      omega (arith, left_after_free s (nat_lt 0 cycles) refl, ap (λ n. n * (1 + l.passes)) all, ap (λ n. n * search_steps l) searches)
 
--- nothing is awaited
-passed_from : (M : Type 0) (kind : Kind) (l : Sizes) (cycles : ℕ) (more : Bool)
-    → passed_of {M = M} (if more then collector.Announce (record (stage_at_start kind l cycles) { cycle = 0 + 1; announcement = Mark }) else collector.Done (stage_at_start kind l cycles)) ≡ l.passes
-passed_from M kind l cycles true = refl
-passed_from M kind l cycles false = refl
+  -- no move has begun
+  pub alone_at_start : (memory : ℕ → ℕ) (l : Sizes) (cycles salt : ℕ) → MovesAlone memory (collector_of kit l cycles salt)
+  alone_at_start memory l cycles salt = free_alone memory (stage_at_start kit.kind l cycles salt) (nat_lt 0 cycles)
 
-pub passed_from_start : {R W E M : Type 0} (kit : Kit R W E M) (l : Sizes) (cycles : ℕ) → passed_of (collector_of kit l cycles) ≡ l.passes
-passed_from_start kit l cycles = passed_from _ kit.kind l cycles (nat_lt 0 cycles)
+-- nothing is awaited, and no mark goes with what was announced
+module _ (M : Type 0) (kind : Kind) (l : Sizes) (cycles salt : ℕ) where
+  abbrev first : Bool → CollectorMachine M
+  first more = if more then collector.Announce (record (stage_at_start kind l cycles salt) { cycle = 0 + 1; announcement = Mark }) else collector.Done (stage_at_start kind l cycles salt)
+
+  passed_from : (more : Bool) → passed_of (first more) ≡ l.passes
+  passed_from true = refl
+  passed_from false = refl
+
+  mark_from : (more : Bool) → (let a = announced_by (first more) in a.mark) ≡ 0
+  mark_from true = refl
+  mark_from false = refl
+
+module _ {R W E M : Type 0} (kit : Kit R W E M) (l : Sizes) (cycles salt : ℕ) where
+  pub passed_from_start : passed_of (collector_of kit l cycles salt) ≡ l.passes
+  passed_from_start = passed_from M kit.kind l cycles salt (nat_lt 0 cycles)
+
+  pub no_mark_at_start : (let a = announced_by (collector_of kit l cycles salt) in a.mark) ≡ 0
+  no_mark_at_start = mark_from M kit.kind l cycles salt (nat_lt 0 cycles)

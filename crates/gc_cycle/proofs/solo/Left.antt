@@ -47,19 +47,18 @@ use Rattle.gc_cycle.specs.declared.sequel.Face.{Face}
 use Rattle.gc_cycle.specs.declared.sequel.Sequel.{Sequel}
 use Rattle.gc_cycle.specs.declared.sequel.Sequel.TheVariants as sequel
 use Rattle.gc_cycle.specs.Sequels.{sequel_of, begun, refused, new_told, read_told, write_told, exchange_told}
-use Rattle.gc_cycle.proofs.solo.PlaysAlone.{FindsWanted, RefusalAnswers, WriteAnswers, ExchangeAnswers, WriteGoesOn, ExchangeGoesOn, PlaysAlone}
+use Rattle.gc_cycle.proofs.solo.PlaysAlone.{RefusalAnswers, WriteAnswers, ExchangeAnswers, WriteGoesOn, ExchangeGoesOn, ExchangeFinds, PlaysAlone}
 
--- ---- what a step relies on
+-- ---- polls
 
--- Nothing is announced that the pass has not acknowledged, and the region that it looks at or claims is free.
-abbrev pub IsUnhindered : {R W E : Type 0} → (ℕ → ℕ) → PassMachine R W E → Type 0
-IsUnhindered memory (machine.Poll (poll.Phase q)) = memory q.phase_at ≡ (let view = q.view in view.acked)
-IsUnhindered memory (machine.Poll (poll.Ended end)) = Unit {0}
-IsUnhindered memory (machine.Poll m) = ⊥
-IsUnhindered memory (machine.New (make.Look plan round)) = memory round.at ≡ 0
-IsUnhindered memory (machine.New (make.Claim plan round)) = (memory round.at ≡ 0) × (plan.old_at ≡ None)
-IsUnhindered memory (machine.New (make.Fill at placement)) = ⊥
-IsUnhindered memory m = Unit {0}
+-- what is announced has been acknowledged, and the pass has no mark
+abbrev pub IsAnswered : (ℕ → ℕ) → Poll → Type 0
+IsAnswered memory q = (memory q.phase_at ≡ (let view = q.view in view.acked)) × ((let view = q.view in view.mark) ≡ 0)
+
+-- a poll has given its pass no mark
+abbrev pub LeavesUnmarked : MachineEnd → Type 0
+LeavesUnmarked (ends.Poll end) = (let view = end.view in view.mark) ≡ 0
+LeavesUnmarked end = Unit {0}
 
 -- ---- what comes of a step
 
@@ -75,6 +74,10 @@ IsLess before sequel.Nothing = 0 < before
 IsLess before (sequel.Starts request) = most_left request < before
 IsLess before (sequel.Answered put answer ended) = 10 < before
 IsLess before (sequel.Retries why) = ⊥
+
+-- likewise, whatever the command is
+abbrev EndsLess : ℕ → MachineEnd → Type 0
+EndsLess before end = (changes : ℕ) (c : Command) (f : Face) → IsLess before (sequel_of changes c f end)
 
 -- ---- after the end of a machine
 
@@ -168,110 +171,127 @@ module _ {R W E M : Type 0} (kit : Kit R W E M) (by : Stepping R W E M) where
   left (machine.Retire m) = retires.left_of m
   left machine.Retired = 0
 
-  -- what an exchange of a field wants is what the word at its place holds
-  abbrev pub IsWanted : (ℕ → ℕ) → PassMachine R W E → Type 0
-  IsWanted memory (machine.Exchange m) = FindsWanted memory (by.exchange_asks m)
-  IsWanted memory m = Unit {0}
-
   abbrev pub asks : PassMachine R W E → Step
   asks m = passes.asks_of by.read_asks by.write_asks by.exchange_asks m
 
   abbrev pub fed : PassMachine R W E → ℕ → PassMachine R W E
   fed m found = passes.fed_of by.read_fed by.write_fed by.exchange_fed m found
 
-  -- the machine goes on with fewer steps left, or it has ended so that fewer are left, whatever the command is
-  abbrev pub IsOnward : (ℕ → ℕ) → ℕ → PassMachine R W E → Option MachineEnd → Type 0
-  IsOnward memory before m None = (left m < before) × IsWanted memory m
-  IsOnward memory before m (Some end) = (changes : ℕ) (c : Command) (f : Face) → IsLess before (sequel_of changes c f end)
+  -- ---- what a step relies on
 
-  -- what comes of this machine
-  abbrev pub GoesOn : (ℕ → ℕ) → ℕ → PassMachine R W E → Type 0
-  GoesOn memory before m = IsOnward memory before m (ended_of kit m)
-
-  -- ---- one step
-
-  module _ (memory : ℕ → ℕ) where
-    -- a poll that finds its phase acknowledged ends
-    polls_once : (q : Poll) (other : PollMachine) (b : Bool) → b ≡ true → GoesOn memory 28 (machine.Poll (if b then polls.ended q.view q.registers else other))
-    polls_once q other true e = λ changes c f. begins_less c f
-    polls_once q other false e = absurd cc
-
-    -- a look finds its region free, and goes on to claim it
-    looks_once : (plan : NewPlan) (round : Round) (b : Bool) → b ≡ true → GoesOn memory 13 (machine.New (makes.claimed plan (if b then claim.Claim round else claims.passed_by claim.Look round)))
-    looks_once plan round true e = (lit< tt, tt)
-    looks_once plan round false e = absurd cc
-
-    -- the claim finds it free, and the pass has no region to fill
-    claimed_first : (plan : NewPlan) (region : ℕ) (old : Option ℕ) → old ≡ None → GoesOn memory 12 (machine.New (makes.leaving_at old (makes.placed_in plan region)))
-    claimed_first plan region None e = (lit< tt, tt)
-    claimed_first plan region (Some at) e = absurd cc
-
-    claims_once : (plan : NewPlan) (round : Round) (b : Bool) → b ≡ true → plan.old_at ≡ None
-        → GoesOn memory 12 (machine.New (makes.claimed plan (if b then claim.Ended (claim_end.Claimed (claims.region_of round)) else claims.passed_by claim.Claim round)))
-    claims_once plan round true e none = claimed_first plan (claims.region_of round) plan.old_at none
-    claims_once plan round false e none = absurd cc
-
-    -- a call goes on, or has ended, with fewer steps left
-    reads_once : (before : ℕ) (m : R) (end : Option ReadEnd) → by.read_left m < before → IsOnward memory (10 + before) (machine.Read m) (option_map (λ e. ends.Read e) end)
-    reads_once before m None falls = (omega (arith, falls), tt)
-    reads_once before m (Some end) falls = λ changes c f. read_less (10 + before) (omega (arith, falls)) changes end c f
-
-    writes_once : (before : ℕ) (m : W) (end : Option WriteEnd) → by.write_left m < before → WriteGoesOn end → IsOnward memory (10 + before) (machine.Write m) (option_map (λ e. ends.Write e) end)
-    writes_once before m None falls on = (omega (arith, falls), tt)
-    writes_once before m (Some end) falls on = λ changes c f. write_less (10 + before) (omega (arith, falls)) changes end on c f
-
-    exchanges_once : (before : ℕ) (m : E) (end : Option ExchangeEnd) → by.exchange_left m < before → ExchangeGoesOn memory (by.exchange_asks m) end
-        → IsOnward memory (10 + before) (machine.Exchange m) (option_map (λ e. ends.Exchange e) end)
-    exchanges_once before m None falls on = (omega (arith, falls), on)
-    exchanges_once before m (Some end) falls on = λ changes c f. exchange_less (10 + before) (omega (arith, falls)) changes end on c f
-
-    -- a step of a retirement
-    retires_on : (m : RetireMachine) (before : ℕ) → retires.left_of m < before → GoesOn memory before (machine.Retire m)
-    retires_on (retire.Root r after) before less = (less, tt)
-    retires_on (retire.Region r at) before less = (less, tt)
-    retires_on (retire.Acknowledge r) before less = (less, tt)
-    retires_on retire.Ended before less = λ changes c f. less
+  -- Nothing is announced that the pass has not acknowledged, and it has no mark; the region that it looks at or claims is free; and an
+  -- exchange finds what it may find.
+  abbrev pub IsUnhindered : List ℕ → PassMachine R W E → Type 0
+  IsUnhindered words (machine.Poll (poll.Phase q)) = IsAnswered (reading words) q
+  IsUnhindered words (machine.Poll (poll.Ended end)) = Unit {0}
+  IsUnhindered words (machine.Poll m) = ⊥
+  IsUnhindered words (machine.New (make.Look plan round)) = reading words round.at ≡ 0
+  IsUnhindered words (machine.New (make.Claim plan round)) = (reading words round.at ≡ 0) × (plan.old_at ≡ None)
+  IsUnhindered words (machine.New (make.Fill at placement)) = ⊥
+  IsUnhindered words (machine.Exchange m) = ExchangeFinds kit by words m
+  IsUnhindered words m = Unit {0}
 
   -- memory after a step of this machine
-  abbrev after : List ℕ → PassMachine R W E → ℕ → ℕ
+  abbrev pub after : List ℕ → PassMachine R W E → ℕ → ℕ
   after words m = reading (applied (asks m) words)
 
   module _ (alone : PlaysAlone kit by) where
+    -- what is known of memory and of a machine that writes or exchanges
+    abbrev pub StandsAlone : (ℕ → ℕ) → PassMachine R W E → Type 0
+    StandsAlone memory (machine.Write m) = alone.WriteAlone memory m
+    StandsAlone memory (machine.Exchange m) = alone.ExchangeAlone memory m
+    StandsAlone memory m = Unit {0}
+
+    -- the machine goes on with fewer steps left, or it has ended so that fewer are left, whatever the command is
+    abbrev pub IsOnward : (ℕ → ℕ) → ℕ → PassMachine R W E → Option MachineEnd → Type 0
+    IsOnward memory before m None = (left m < before) × StandsAlone memory m
+    IsOnward memory before m (Some end) = EndsLess before end × LeavesUnmarked end
+
+    -- what comes of this machine
+    abbrev pub GoesOn : (ℕ → ℕ) → ℕ → PassMachine R W E → Type 0
+    GoesOn memory before m = IsOnward memory before m (ended_of kit m)
+
+    -- ---- one step
+
+    module _ (memory : ℕ → ℕ) where
+      -- a poll that finds its phase acknowledged ends
+      polls_once : (q : Poll) (other : PollMachine) (b : Bool) → b ≡ true → (let view = q.view in view.mark) ≡ 0 → GoesOn memory 28 (machine.Poll (if b then polls.ended q.view q.registers else other))
+      polls_once q other true e unmarked = ((λ changes c f. begins_less c f), unmarked)
+      polls_once q other false e unmarked = absurd cc
+
+      -- a look finds its region free, and goes on to claim it
+      looks_once : (plan : NewPlan) (round : Round) (b : Bool) → b ≡ true → GoesOn memory 13 (machine.New (makes.claimed plan (if b then claim.Claim round else claims.passed_by claim.Look round)))
+      looks_once plan round true e = (lit< tt, tt)
+      looks_once plan round false e = absurd cc
+
+      -- the claim finds it free, and the pass has no region to fill
+      claimed_first : (plan : NewPlan) (region : ℕ) (old : Option ℕ) → old ≡ None → GoesOn memory 12 (machine.New (makes.leaving_at old (makes.placed_in plan region)))
+      claimed_first plan region None e = (lit< tt, tt)
+      claimed_first plan region (Some at) e = absurd cc
+
+      claims_once : (plan : NewPlan) (round : Round) (b : Bool) → b ≡ true → plan.old_at ≡ None
+          → GoesOn memory 12 (machine.New (makes.claimed plan (if b then claim.Ended (claim_end.Claimed (claims.region_of round)) else claims.passed_by claim.Claim round)))
+      claims_once plan round true e none = claimed_first plan (claims.region_of round) plan.old_at none
+      claims_once plan round false e none = absurd cc
+
+      -- a call goes on, or has ended, with fewer steps left
+      reads_once : (before : ℕ) (m : R) (end : Option ReadEnd) → by.read_left m < before → IsOnward memory (10 + before) (machine.Read m) (option_map (λ e. ends.Read e) end)
+      reads_once before m None falls = (omega (arith, falls), tt)
+      reads_once before m (Some end) falls = ((λ changes c f. read_less (10 + before) (omega (arith, falls)) changes end c f), tt)
+
+      writes_once : (before : ℕ) (m : W) (end : Option WriteEnd) → by.write_left m < before → WriteGoesOn (alone.WriteAlone memory m) end
+          → IsOnward memory (10 + before) (machine.Write m) (option_map (λ e. ends.Write e) end)
+      writes_once before m None falls on = (omega (arith, falls), on)
+      writes_once before m (Some end) falls on = ((λ changes c f. write_less (10 + before) (omega (arith, falls)) changes end on c f), tt)
+
+      exchanges_once : (before : ℕ) (m : E) (end : Option ExchangeEnd) → by.exchange_left m < before → ExchangeGoesOn (alone.ExchangeAlone memory m) end
+          → IsOnward memory (10 + before) (machine.Exchange m) (option_map (λ e. ends.Exchange e) end)
+      exchanges_once before m None falls on = (omega (arith, falls), on)
+      exchanges_once before m (Some end) falls on = ((λ changes c f. exchange_less (10 + before) (omega (arith, falls)) changes end on c f), tt)
+
+      -- a step of a retirement
+      retires_on : (m : RetireMachine) (before : ℕ) → retires.left_of m < before → GoesOn memory before (machine.Retire m)
+      retires_on (retire.Root r after) before less = (less, tt)
+      retires_on (retire.Region r at) before less = (less, tt)
+      retires_on (retire.Acknowledge r) before less = (less, tt)
+      retires_on retire.Ended before less = ((λ changes c f. less), tt)
+
     read_goes : (words : List ℕ) (m : R) → by.read_asks m ≢ steps.Ended → GoesOn (after words (machine.Read m)) (10 + by.read_left m) (machine.Read (by.read_fed m (found_by (by.read_asks m) words)))
     read_goes words m on =
         let n : ℕ = found_by (by.read_asks m) words in
         reads_once (after words (machine.Read m)) (by.read_left m) (by.read_fed m n) (kit.read_ended (by.read_fed m n)) (alone.reads_fall m n on)
 
-    write_goes : (words : List ℕ) (m : W) → by.write_asks m ≢ steps.Ended → GoesOn (after words (machine.Write m)) (10 + by.write_left m) (machine.Write (by.write_fed m (found_by (by.write_asks m) words)))
-    write_goes words m on =
+    write_goes : (words : List ℕ) (m : W) → by.write_asks m ≢ steps.Ended → alone.WriteAlone (reading words) m
+        → GoesOn (after words (machine.Write m)) (10 + by.write_left m) (machine.Write (by.write_fed m (found_by (by.write_asks m) words)))
+    write_goes words m on stands =
         let n : ℕ = found_by (by.write_asks m) words in
-        writes_once (after words (machine.Write m)) (by.write_left m) (by.write_fed m n) (kit.write_ended (by.write_fed m n)) (alone.writes_fall m n on) (alone.writes_on m n on)
+        writes_once (after words (machine.Write m)) (by.write_left m) (by.write_fed m n) (kit.write_ended (by.write_fed m n)) (alone.writes_fall m n on) (alone.writes_on words m on stands)
 
-    exchange_goes : (words : List ℕ) (m : E) → by.exchange_asks m ≢ steps.Ended → FindsWanted (reading words) (by.exchange_asks m)
+    exchange_goes : (words : List ℕ) (m : E) → by.exchange_asks m ≢ steps.Ended → ExchangeFinds kit by words m → alone.ExchangeAlone (reading words) m
         → GoesOn (after words (machine.Exchange m)) (10 + by.exchange_left m) (machine.Exchange (by.exchange_fed m (found_by (by.exchange_asks m) words)))
-    exchange_goes words m on wants =
+    exchange_goes words m on finds stands =
         let n : ℕ = found_by (by.exchange_asks m) words in
-        exchanges_once (after words (machine.Exchange m)) (by.exchange_left m) (by.exchange_fed m n) (kit.exchange_ended (by.exchange_fed m n)) (alone.exchanges_fall m n on) (alone.exchanges_on words m on wants)
+        exchanges_once (after words (machine.Exchange m)) (by.exchange_left m) (by.exchange_fed m n) (kit.exchange_ended (by.exchange_fed m n)) (alone.exchanges_fall m n on) (alone.exchanges_on words m on finds stands)
 
     -- A step of a machine: fewer steps are left.
-    pub goes_on : (words : List ℕ) (m : PassMachine R W E) → asks m ≢ steps.Ended → IsUnhindered (reading words) m → IsWanted (reading words) m
+    pub goes_on : (words : List ℕ) (m : PassMachine R W E) → asks m ≢ steps.Ended → IsUnhindered words m → StandsAlone (reading words) m
         → GoesOn (after words m) (left m) (fed m (found_by (asks m) words))
-    goes_on words machine.Idle on unhindered wants = absurd (on refl)
-    goes_on words machine.Retired on unhindered wants = absurd (on refl)
-    goes_on words (machine.Poll (poll.Phase q)) on unhindered wants = polls_once (after words (machine.Poll (poll.Phase q))) q _ _ (same_eqb _ _ unhindered)
-    goes_on words (machine.Poll (poll.Mark q word)) on unhindered wants = absurd unhindered
-    goes_on words (machine.Poll (poll.Follow q word register birth address)) on unhindered wants = absurd unhindered
-    goes_on words (machine.Poll (poll.Acknowledge q word mark)) on unhindered wants = absurd unhindered
-    goes_on words (machine.Poll (poll.Ended end)) on unhindered wants = absurd (on refl)
-    goes_on words (machine.New (make.Look plan round)) on unhindered wants = looks_once (after words (machine.New (make.Look plan round))) plan round _ (same_eqb _ _ unhindered)
-    goes_on words (machine.New (make.Claim plan round)) on unhindered wants = claims_once (after words (machine.New (make.Claim plan round))) plan round _ (same_eqb _ _ unhindered.0) unhindered.1
-    goes_on words (machine.New (make.Fill address placement)) on unhindered wants = absurd unhindered
-    goes_on words (machine.New (make.Header placement)) on unhindered wants = λ changes c f. new_less 11 (lit< tt) changes (new_end.Made placement.birth placement.at placement.room) c f
-    goes_on words (machine.New (make.Ended end)) on unhindered wants = absurd (on refl)
-    goes_on words (machine.Read m) on unhindered wants = read_goes words m on
-    goes_on words (machine.Write m) on unhindered wants = write_goes words m on
-    goes_on words (machine.Exchange m) on unhindered wants = exchange_goes words m on wants
-    goes_on words (machine.Retire m) on unhindered wants = retires_on (after words (machine.Retire m)) (retires.fed_of m _) (retires.left_of m) (retires.falls_of m _ on)
+    goes_on words machine.Idle on unhindered stands = absurd (on refl)
+    goes_on words machine.Retired on unhindered stands = absurd (on refl)
+    goes_on words (machine.Poll (poll.Phase q)) on unhindered stands = polls_once (after words (machine.Poll (poll.Phase q))) q _ _ (same_eqb _ _ unhindered.0) unhindered.1
+    goes_on words (machine.Poll (poll.Mark q word)) on unhindered stands = absurd unhindered
+    goes_on words (machine.Poll (poll.Follow q word register birth address)) on unhindered stands = absurd unhindered
+    goes_on words (machine.Poll (poll.Acknowledge q word mark)) on unhindered stands = absurd unhindered
+    goes_on words (machine.Poll (poll.Ended end)) on unhindered stands = absurd (on refl)
+    goes_on words (machine.New (make.Look plan round)) on unhindered stands = looks_once (after words (machine.New (make.Look plan round))) plan round _ (same_eqb _ _ unhindered)
+    goes_on words (machine.New (make.Claim plan round)) on unhindered stands = claims_once (after words (machine.New (make.Claim plan round))) plan round _ (same_eqb _ _ unhindered.0) unhindered.1
+    goes_on words (machine.New (make.Fill address placement)) on unhindered stands = absurd unhindered
+    goes_on words (machine.New (make.Header placement)) on unhindered stands = ((λ changes c f. new_less 11 (lit< tt) changes (new_end.Made placement.birth placement.at placement.room) c f), tt)
+    goes_on words (machine.New (make.Ended end)) on unhindered stands = absurd (on refl)
+    goes_on words (machine.Read m) on unhindered stands = read_goes words m on
+    goes_on words (machine.Write m) on unhindered stands = write_goes words m on stands
+    goes_on words (machine.Exchange m) on unhindered stands = exchange_goes words m on unhindered stands
+    goes_on words (machine.Retire m) on unhindered stands = retires_on (after words (machine.Retire m)) (retires.fed_of m _) (retires.left_of m) (retires.falls_of m _ on)
 
     -- one that asks for a step has one left
     pub some_left : (m : PassMachine R W E) → asks m ≢ steps.Ended → 0 < left m

@@ -2,7 +2,6 @@
 use Rattle.std.proofs.Common.{◌≡◌, ◌≢◌, ℕ, ◌+◌, ◌-◌, ◌*◌, ◌<◌, ◌≤◌, Bool, true, false, List, [], ◌∷◌, ◌++◌, length, get_or, set, Option, Some, None, refl, sym, ap, ◌∙◌, subst, arith, lit≤, length-append, length-set, get_or-set_same, get_or-set_other}
 use Rattle.std.specs.Prelude.{◌==◌, nat_lt, if◌then◌else◌, option_map}
 use Rattle.std.proofs.lemmas.Bool.Decides.{nat_tests}
-use Rattle.call_steps.specs.declared.step.Step.{Step}
 use Rattle.call_steps.specs.declared.step.Step.TheVariants as steps
 use Rattle.call_steps.specs.StepLaws.{reading}
 use Rattle.heap_words.specs.declared.field_word.FieldWord.{FieldWord}
@@ -38,8 +37,8 @@ use Rattle.gc_cycle.specs.declared.sequel.Sequel.{Sequel}
 use Rattle.gc_cycle.specs.declared.sequel.Sequel.TheVariants as sequel
 use Rattle.gc_cycle.specs.Sequels.{sequel_of}
 use Rattle.gc_cycle.specs.Worlds.{State, nobody, pass_at, answered, changes_now, face_of, put_pass, or_else, with_put, in_front, IsThere, asks_at, fed_at, stepped, taken, answered_with, access_begun, followed_at, concluded_by, settled_by, command_at}
-use Rattle.gc_cycle.proofs.solo.Left.{left, left_new, IsWanted, IsUnhindered, most_left, IsLess, IsOnward, some_left, goes_on}
-use Rattle.gc_cycle.proofs.solo.PlaysAlone.{FindsWanted, WantsNone, PlaysAlone}
+use Rattle.gc_cycle.proofs.solo.Left.{left, left_new, StandsAlone, IsUnhindered, LeavesUnmarked, most_left, IsLess, IsOnward, some_left, goes_on}
+use Rattle.gc_cycle.proofs.solo.PlaysAlone.{PlaysAlone}
 
 module _ {R W E M : Type 0} where
   abbrev pub machine_at : State R W E M → ℕ → PassMachine R W E
@@ -77,44 +76,52 @@ least_left (requests.Write obj field what) = lit≤ tt
 least_left (requests.Exchange obj field expected what) = lit≤ tt
 least_left requests.Retire = lit≤ tt
 
--- one that wants nothing finds what it wants
-pub none_finds : (memory : ℕ → ℕ) (step : Step) → WantsNone step → FindsWanted memory step
-none_finds memory (steps.Load at) none = tt
-none_finds memory (steps.Store at put) none = tt
-none_finds memory (steps.Exchange at want put) none = absurd none
-none_finds memory (steps.Add at by) none = tt
-none_finds memory (steps.Sub at by) none = tt
-none_finds memory steps.Ended none = tt
+module _ {R W E : Type 0} where
+  -- the pass has no mark
+  abbrev pub IsUnmarked : PassRecord R W E → Type 0
+  IsUnmarked r = (let view = r.view in view.mark) ≡ 0
+
+  -- nor has it one after such an end
+  still_unmarked : (r : PassRecord R W E) (end : MachineEnd) → IsUnmarked r → LeavesUnmarked end → IsUnmarked (with_end r end)
+  still_unmarked r (ends.Poll end) was leaves = leaves
+  still_unmarked r (ends.New (new_end.Made birth at room)) was leaves = was
+  still_unmarked r (ends.New (new_end.Refused why)) was leaves = was
+  still_unmarked r (ends.Read end) was leaves = was
+  still_unmarked r (ends.Write end) was leaves = was
+  still_unmarked r (ends.Exchange end) was leaves = was
+  still_unmarked r ends.Retire was leaves = refl
 
 module _ {R W E M : Type 0} (kit : Kit R W E M) (by : Stepping R W E M) where
   abbrev pub to_do : State R W E M → ℕ → ℕ
   to_do w party = left_with (length (commands_at w.commands party)) (answered w party) (left kit by (machine_at w party))
 
   -- if it begins, it has fewer steps left
-  abbrev IsBegun : (ℕ → ℕ) → ℕ → Option (PassRecord R W E) → Type 0
-  IsBegun memory before None = Unit {0}
-  IsBegun memory before (Some r) = (left kit by r.machine < before) × IsWanted kit by memory r.machine
+  abbrev IsBegun : PlaysAlone kit by → (ℕ → ℕ) → ℕ → Option (PassRecord R W E) → Type 0
+  IsBegun alone memory before None = Unit {0}
+  IsBegun alone memory before (Some r) = (left kit by r.machine < before) × StandsAlone kit by alone memory r.machine
 
-  module _ (alone : PlaysAlone kit by) (memory : ℕ → ℕ) (before : ℕ) (l : Sizes) (r : PassRecord R W E) where
+  module _ (alone : PlaysAlone kit by) (memory : ℕ → ℕ) (before : ℕ) (l : Sizes) (r : PassRecord R W E) (unmarked : IsUnmarked r) where
     read_begun : (word : FieldWord) (field : ℕ) → 27 < before
-        → IsBegun memory before (option_map (λ m. record r { machine = m }) (accessed word (λ birth at. machine.Read (kit.starts_read l r.view birth at field))))
+        → IsBegun alone memory before (option_map (λ m. record r { machine = m }) (accessed word (λ birth at. machine.Read (kit.starts_read l r.view birth at field))))
     read_begun (Num n) field less = tt
     read_begun (Link birth at) field less = (omega (arith, less, alone.read_few l r.view birth at field), tt)
 
     write_begun : (word : FieldWord) (field : ℕ) (what : Operand) → 27 < before
-        → IsBegun memory before (option_map (λ m. record r { machine = m }) (accessed word (λ birth at. machine.Write (kit.starts_write l r.view birth at field (word_of (operand_word r.registers what))))))
+        → IsBegun alone memory before (option_map (λ m. record r { machine = m }) (accessed word (λ birth at. machine.Write (kit.starts_write l r.view birth at field (word_of (operand_word r.registers what))))))
     write_begun (Num n) field what less = tt
-    write_begun (Link birth at) field what less = (omega (arith, less, alone.write_few l r.view birth at field (word_of (operand_word r.registers what))), tt)
+    write_begun (Link birth at) field what less =
+        let put : ℕ = word_of (operand_word r.registers what) in
+        (omega (arith, less, alone.write_few l r.view birth at field put), alone.write_first memory l r.view birth at field put unmarked)
 
     exchange_begun : (word : FieldWord) (field : ℕ) (expected what : Operand) → 27 < before
-        → IsBegun memory before (option_map (λ m. record r { machine = m }) (accessed word (λ birth at. machine.Exchange (kit.starts_exchange l r.view birth at field (operand_word r.registers expected) (word_of (operand_word r.registers what))))))
+        → IsBegun alone memory before (option_map (λ m. record r { machine = m }) (accessed word (λ birth at. machine.Exchange (kit.starts_exchange l r.view birth at field (operand_word r.registers expected) (word_of (operand_word r.registers what))))))
     exchange_begun (Num n) field expected what less = tt
     exchange_begun (Link birth at) field expected what less =
         let put : ℕ = word_of (operand_word r.registers what) in
-        let m : E = kit.starts_exchange l r.view birth at field (operand_word r.registers expected) put in
-        (omega (arith, less, alone.exchange_few l r.view birth at field (operand_word r.registers expected) put), none_finds memory (by.exchange_asks m) (alone.exchange_first l r.view birth at field (operand_word r.registers expected) put))
+        let wanted : FieldWord = operand_word r.registers expected in
+        (omega (arith, less, alone.exchange_few l r.view birth at field wanted put), alone.exchange_first memory l r.view birth at field wanted put unmarked)
 
-    request_begun : (request : Request) → most_left request < before → IsBegun memory before (started kit l r request)
+    request_begun : (request : Request) → most_left request < before → IsBegun alone memory before (started kit l r request)
     request_begun requests.Poll less = (less, tt)
     request_begun (requests.New len) less =
         let m : NewMachine = makes.by_fit l r.view.pass r.room r.made len r.room.region (fits_behind r.room.used len) in
@@ -131,29 +138,30 @@ module _ {R W E M : Type 0} (kit : Kit R W E M) (by : Stepping R W E M) where
   begins_left size count l r true e = let below : count < size = grind (arith, nat_tests) in omega (arith, below)
   begins_left size count l r false e = let past : size ≤ count = grind (arith, nat_tests) in omega (arith, past)
 
-  begins_wants : (memory : ℕ → ℕ) (l : Sizes) (r : PassRecord R W E) (b : Bool) → IsWanted kit by memory (or_else (started kit l r (if b then requests.Poll else requests.Retire)) r).machine
-  begins_wants memory l r true = tt
-  begins_wants memory l r false = tt
+  module _ (alone : PlaysAlone kit by) where
+    begins_alone : (memory : ℕ → ℕ) (l : Sizes) (r : PassRecord R W E) (b : Bool) → StandsAlone kit by alone memory (or_else (started kit l r (if b then requests.Poll else requests.Retire)) r).machine
+    begins_alone memory l r true = tt
+    begins_alone memory l r false = tt
 
-  -- a pass whose machine has ended is between two machines, or has retired
-  abbrev IsBetween : (ℕ → ℕ) → PassMachine R W E → Type 0
-  IsBetween memory m = (left kit by m ≡ 0) × IsWanted kit by memory m
+    -- a pass whose machine has ended is between two machines, or has retired
+    abbrev IsBetween : (ℕ → ℕ) → PassMachine R W E → Type 0
+    IsBetween memory m = (left kit by m ≡ 0) × StandsAlone kit by alone memory m
 
-  between : (memory : ℕ → ℕ) (r : PassRecord R W E) (end : MachineEnd) → IsBetween memory (with_end r end).machine
-  between memory r (ends.Poll end) = (refl, tt)
-  between memory r (ends.New (new_end.Made birth at room)) = (refl, tt)
-  between memory r (ends.New (new_end.Refused why)) = (refl, tt)
-  between memory r (ends.Read end) = (refl, tt)
-  between memory r (ends.Write end) = (refl, tt)
-  between memory r (ends.Exchange end) = (refl, tt)
-  between memory r ends.Retire = (refl, tt)
+    between : (memory : ℕ → ℕ) (r : PassRecord R W E) (end : MachineEnd) → IsBetween memory (with_end r end).machine
+    between memory r (ends.Poll end) = (refl, tt)
+    between memory r (ends.New (new_end.Made birth at room)) = (refl, tt)
+    between memory r (ends.New (new_end.Refused why)) = (refl, tt)
+    between memory r (ends.Read end) = (refl, tt)
+    between memory r (ends.Write end) = (refl, tt)
+    between memory r (ends.Exchange end) = (refl, tt)
+    between memory r ends.Retire = (refl, tt)
 
   -- ---- what comes of a step
 
-  -- The thread has less to do than it had with so many steps of its machine, what its exchange wants is there, and all else is where it was.
-  pub record Goes (w : State R W E M) (p before : ℕ) (new : State R W E M) : Type 0 where
+  -- The thread has less to do than it had with so many steps of its machine, which nobody has raced, and all else is where it was.
+  pub record Goes (alone : PlaysAlone kit by) (w : State R W E M) (p before : ℕ) (new : State R W E M) : Type 0 where
     pub less : to_do new p < left_with (length (commands_at w.commands p)) (answered w p) before
-    pub wants : IsWanted kit by (reading new.words) (machine_at new p)
+    pub stands : StandsAlone kit by alone (reading new.words) (machine_at new p)
     pub passes : (q : ℕ) → 1 ≤ q → q ≢ p → pass_at new q ≡ pass_at w q
     pub answers : (q : ℕ) → 1 ≤ q → q ≢ p → answers_at new.told.answers q ≡ answers_at w.told.answers q
     pub commands : new.commands ≡ w.commands
@@ -161,16 +169,20 @@ module _ {R W E M : Type 0} (kit : Kit R W E M) (by : Stepping R W E M) where
     pub collector : new.collector ≡ w.collector
 
   module _ (alone : PlaysAlone kit by) (w : State R W E M) (p : ℕ) (there : IsThere w p) (before : ℕ) where
+    -- what it is known as
+    abbrev Stands : PassMachine R W E → Type 0
+    Stands m = StandsAlone kit by alone (reading w.words) m
+
     abbrev size : ℕ
     size = length (commands_at w.commands p)
 
     -- a record is put in its place
-    puts : (r : PassRecord R W E) → left kit by r.machine < before → IsWanted kit by (reading w.words) r.machine → Goes w p before (put_pass w p r)
-    puts r less wants =
+    puts : (r : PassRecord R W E) → left kit by r.machine < before → Stands r.machine → Goes alone w p before (put_pass w p r)
+    puts r less stands =
         let here : get_or (set w.passes (p - 1) r) (p - 1) nobody ≡ r = set_here w.passes p r nobody there.least there.passes in
         record {
           less = subst (λ (k : PassRecord R W E). left_with size (answered w p) (left kit by k.machine) < left_with size (answered w p) before) (sym here) (omega (arith, less));
-          wants = subst (λ (k : PassRecord R W E). IsWanted kit by (reading w.words) k.machine) (sym here) wants;
+          stands = subst (λ (k : PassRecord R W E). Stands k.machine) (sym here) stands;
           passes = λ q least apart. set_there w.passes p q r nobody there.least least apart;
           answers = λ q least apart. refl;
           commands = refl;
@@ -179,7 +191,7 @@ module _ {R W E M : Type 0} (kit : Kit R W E M) (by : Stepping R W E M) where
         }
 
     -- a command is answered
-    answers_on : (r : PassRecord R W E) (a : Answer) (call : Option Ended) → 10 < before → Goes w p before (answered_with kit w p r a call)
+    answers_on : (r : PassRecord R W E) (a : Answer) (call : Option Ended) → 10 < before → Goes alone w p before (answered_with kit w p r a call)
     answers_on r a call some =
         let next : PassRecord R W E = or_else (started kit w.layout r (if nat_lt (answered w p + 1) size then requests.Poll else requests.Retire)) r in
         let here : get_or (set w.passes (p - 1) next) (p - 1) nobody ≡ next = set_here w.passes p next nobody there.least there.passes in
@@ -190,7 +202,7 @@ module _ {R W E M : Type 0} (kit : Kit R W E M) (by : Stepping R W E M) where
         let machine_here = subst (λ (k : PassRecord R W E). left_with size (answered w p + 1) (left kit by k.machine) < left_with size (answered w p) before) (sym here) least in
         record {
           less = subst (λ (n : ℕ). left_with size n (left kit by (get_or (set w.passes (p - 1) next) (p - 1) nobody).machine) < left_with size (answered w p) before) (sym told) machine_here;
-          wants = subst (λ (k : PassRecord R W E). IsWanted kit by (reading w.words) k.machine) (sym here) (begins_wants (reading w.words) w.layout r (nat_lt (answered w p + 1) size));
+          stands = subst (λ (k : PassRecord R W E). Stands k.machine) (sym here) (begins_alone alone (reading w.words) w.layout r (nat_lt (answered w p + 1) size));
           passes = λ q least apart. set_there w.passes p q next nobody there.least least apart;
           answers = λ q least apart. set_there w.told.answers p q (answers_at w.told.answers p ++ a ∷ []) [] there.least least apart;
           commands = refl;
@@ -198,54 +210,54 @@ module _ {R W E M : Type 0} (kit : Kit R W E M) (by : Stepping R W E M) where
           collector = refl;
         }
 
-    begins_on : (r : PassRecord R W E) (next : Option (PassRecord R W E)) → 10 < before → IsBegun (reading w.words) before next → Goes w p before (access_begun kit w p r next)
+    begins_on : (r : PassRecord R W E) (next : Option (PassRecord R W E)) → 10 < before → IsBegun alone (reading w.words) before next → Goes alone w p before (access_begun kit w p r next)
     begins_on r None some begun = answers_on r answers.NotLink None some
     begins_on r (Some next) some begun = puts next begun.0 begun.1
 
-    follows_on : (r : PassRecord R W E) (s : Sequel) → IsBetween (reading w.words) r.machine → IsLess before s → Goes w p before (followed_at kit w p r s)
-    follows_on r sequel.Nothing rests less = puts r (omega (arith, rests.0, less)) rests.1
-    follows_on r (sequel.Starts request) rests less =
-        begins_on r (started kit w.layout r request) (omega (arith, least_left request, less)) (request_begun alone (reading w.words) before w.layout r request less)
-    follows_on r (sequel.Answered put answer ended) rests less = answers_on (in_front (with_put r put) ended) answer ended less
-    follows_on r (sequel.Retries why) rests less = absurd less
+    follows_on : (r : PassRecord R W E) (s : Sequel) → IsUnmarked r → IsBetween alone (reading w.words) r.machine → IsLess before s → Goes alone w p before (followed_at kit w p r s)
+    follows_on r sequel.Nothing unmarked rests less = puts r (omega (arith, rests.0, less)) rests.1
+    follows_on r (sequel.Starts request) unmarked rests less =
+        begins_on r (started kit w.layout r request) (omega (arith, least_left request, less)) (request_begun alone (reading w.words) before w.layout r unmarked request less)
+    follows_on r (sequel.Answered put answer ended) unmarked rests less = answers_on (in_front (with_put r put) ended) answer ended less
+    follows_on r (sequel.Retries why) unmarked rests less = absurd less
 
-    concludes_on : (end : MachineEnd) (command : Option Command) → 0 < before → IsOnward kit by (reading w.words) before (machine_at w p) (Some end)
-        → Goes w p before (concluded_by kit w p (with_end (pass_at w p) end) end command)
-    concludes_on end None some onward = let rests = between (reading w.words) (pass_at w p) end in puts (with_end (pass_at w p) end) (omega (arith, rests.0, some)) rests.1
-    concludes_on end (Some command) some onward =
-        let r : PassRecord R W E = with_end (pass_at w p) end in
-        follows_on r (sequel_of (changes_now w) command (face_of r) end) (between (reading w.words) (pass_at w p) end) (onward (changes_now w) command (face_of r))
+    module _ (unmarked : IsUnmarked (pass_at w p)) (some : 0 < before) where
+      concludes_on : (end : MachineEnd) (command : Option Command) → IsOnward kit by alone (reading w.words) before (machine_at w p) (Some end)
+          → Goes alone w p before (concluded_by kit w p (with_end (pass_at w p) end) end command)
+      concludes_on end None onward = let rests = between alone (reading w.words) (pass_at w p) end in puts (with_end (pass_at w p) end) (omega (arith, rests.0, some)) rests.1
+      concludes_on end (Some command) onward =
+          let r : PassRecord R W E = with_end (pass_at w p) end in
+          follows_on r (sequel_of (changes_now w) command (face_of r) end) (still_unmarked (pass_at w p) end unmarked onward.1) (between alone (reading w.words) (pass_at w p) end) (onward.0 (changes_now w) command (face_of r))
 
-    settles_on : (end : Option MachineEnd) → 0 < before → IsOnward kit by (reading w.words) before (machine_at w p) end → Goes w p before (settled_by kit w p end)
-    settles_on None some onward = record {
-      less = omega (arith, onward.0);
-      wants = onward.1;
-      passes = λ q least apart. refl;
-      answers = λ q least apart. refl;
-      commands = refl;
-      layout = refl;
-      collector = refl;
-    }
-    settles_on (Some end) some onward = concludes_on end (command_at w p) some onward
+      settles_on : (end : Option MachineEnd) → IsOnward kit by alone (reading w.words) before (machine_at w p) end → Goes alone w p before (settled_by kit w p end)
+      settles_on None onward = record {
+        less = omega (arith, onward.0);
+        stands = onward.1;
+        passes = λ q least apart. refl;
+        answers = λ q least apart. refl;
+        commands = refl;
+        layout = refl;
+        collector = refl;
+      }
+      settles_on (Some end) onward = concludes_on end (command_at w p) onward
 
   -- ---- a turn
 
   -- where nothing is announced yet
-  pub turn_goes : PlaysAlone kit by → (w : State R W E M) (p : ℕ) → IsThere w p → asks_at kit by w p ≢ steps.Ended → IsUnhindered (reading w.words) (machine_at w p) → IsWanted kit by (reading w.words) (machine_at w p)
-      → Goes w p (left kit by (machine_at w p)) (taken kit by w p)
-  turn_goes alone w p there on unhindered wants =
+  pub turn_goes : (alone : PlaysAlone kit by) (w : State R W E M) (p : ℕ) → IsThere w p → asks_at kit by w p ≢ steps.Ended → IsUnmarked (pass_at w p) → IsUnhindered kit by w.words (machine_at w p) → StandsAlone kit by alone (reading w.words) (machine_at w p)
+      → Goes alone w p (left kit by (machine_at w p)) (taken kit by w p)
+  turn_goes alone w p there on unmarked unhindered stands =
       let m : PassMachine R W E = machine_at w p in
       let x : State R W E M = stepped kit by w p in
       let f : PassRecord R W E = fed_at kit by w p in
       let here : pass_at x p ≡ f = set_here w.passes p f nobody there.least there.passes in
-      let onward : IsOnward kit by (reading x.words) (left kit by m) (machine_at x p) (ended_of kit (machine_at x p)) =
-      subst (λ (k : PassRecord R W E). IsOnward kit by (reading x.words) (left kit by m) k.machine (ended_of kit k.machine)) (sym here) (goes_on kit by alone w.words m on unhindered wants) in
+      let onward : IsOnward kit by alone (reading x.words) (left kit by m) (machine_at x p) (ended_of kit (machine_at x p)) =
+      subst (λ (k : PassRecord R W E). IsOnward kit by alone (reading x.words) (left kit by m) k.machine (ended_of kit k.machine)) (sym here) (goes_on kit by alone w.words m on unhindered stands) in
       let at : IsThere x p = record { least = there.least; passes = omega (arith, there.passes, length-set w.passes (p - 1) f); commands = there.commands; answers = there.answers } in
-      let some : 0 < left kit by m = some_left kit by alone m on in
-      let comes = settles_on alone x p at (left kit by m) (ended_of kit (machine_at x p)) some onward in
+      let comes = settles_on alone x p at (left kit by m) (subst IsUnmarked (sym here) unmarked) (some_left kit by alone m on) (ended_of kit (machine_at x p)) onward in
       record {
         less = comes.less;
-        wants = comes.wants;
+        stands = comes.stands;
         passes = λ q least apart. comes.passes q least apart ∙ set_there w.passes p q f nobody there.least least apart;
         answers = comes.answers;
         commands = comes.commands;

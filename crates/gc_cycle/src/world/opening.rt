@@ -10,8 +10,10 @@ ghost use Rattle.gc_cycle.specs.Lawful.{Lawful, rooms_of, room_of as room_of_com
 ghost use Rattle.gc_cycle.specs.Worlds.{opening_words as opening_words_of, opening_registers as opening_registers_of, fresh_pass as fresh_pass_of, opening_pass as opening_pass_of, opening_passes as opening_passes_of, opening_state};
 
 use super::World;
+use super::marking::{NOWHERE, unmarked};
 use barriers::{Copier, PassMachine, PassRecord, Request, Room, start};
 use call_steps::{OutOfMemory, PlainWords, Step};
+use cycle_journal::CANDIDATES;
 use handshakes::PassView;
 use heap_script::{Command, Commands, Line, Script, Told};
 use heap_words::{FieldWord, Layout};
@@ -173,20 +175,20 @@ where
         true
     }
 
-    /// The world of a script at its start. All memory is taken here. The salt draws the marks of the cycles; no
-    /// cycle has one yet, so the world does not keep it.
-    pub fn new(alloc: Global, script: &Script, _salt: u64) -> Result<World<P>, OutOfMemory>
+    /// The world of a script at its start. All memory is taken here. The salt draws the marks of the cycles.
+    pub fn new(alloc: Global, script: &Script, salt: u64) -> Result<World<P>, OutOfMemory>
         requires fits { Fits script.now }
         requires rooms { (t : ℕ) → IsPass script.now.layout t
             → rooms_of (commands_of t script.now.lines) ≤ 64 }
-        ensures opening { IfOk result (λ w. w ≡ opening_state P.kit script.now) }
+        ensures opening { IfOk result (λ w. w ≡ opening_state P.kit script.now salt) }
         ensures lawful { IfOk result (λ w. Lawful P.kit w) }
     {
         let layout = *layout_of(script);
         let words = opening_words(alloc, &layout)?;
         let commands = Commands::of_lines(alloc, &script.lines, layout.passes())?;
         let passes = opening_passes::<P>(alloc, &layout, &commands)?;
-        let collector = Stage::first::<P>(&layout, script.cycles);
+        let collector = Stage::first::<P>(&layout, script.cycles, salt);
+        let marks = unmarked(alloc, script.cycles)?;
         let told = Told::opening(alloc, &commands)?;
         Ok(World {
             layout,
@@ -197,6 +199,8 @@ where
             awaited: Awaited::NONE,
             sealed: None,
             moved: None,
+            finds: [NOWHERE; CANDIDATES],
+            marks,
             told,
         })
     }

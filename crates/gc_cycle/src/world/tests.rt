@@ -6,6 +6,7 @@ ghost use Rattle.heap_script.specs.Scripts.{Fits, LineFits, CommandFits, Operand
 ghost use Rattle.at_rest.specs.Knowing.{kit_at_rest};
 ghost use Rattle.gc_cycle.specs.Lawful.{Lawful};
 
+use super::orders::{schedule, take};
 use super::*;
 use crate::schedule::{Schedule, StepsSpent};
 use at_rest::AtRest;
@@ -111,8 +112,7 @@ fn an_exchange_meets_a_write(rt: HostRuntime) -> Result<(), Fail> {
         ),
     ] {
         let mut world = world_of_text(&rt, alloc, 2, text)?;
-        assert!(rt; order.len() < 20 && order.iter().all(|party| 1 <= *party && *party <= 2));
-        assert_eq!(rt; world.play(order), order.len() as u32);
+        take(&rt, &mut world, order);
         assert_eq!(rt; world.turn(3), Turn::Idle);
         assert_answers(&rt, &world, 1, &[answer]);
         assert_eq!(rt; world.run(Schedule::Solo, 20), Ok(()));
@@ -149,15 +149,6 @@ fn goes_to_a_step(rt: HostRuntime) -> Result<(), Fail> {
     assert!(rt; !world.to(1, Step::Ended, 9));
     assert!(rt; world.to(1, Step::Ended, 1));
     Ok(())
-}
-
-/// All schedules that are tried: `solo`, `even` and fifty numbers.
-fn schedule(index: u64) -> Schedule {
-    match index {
-        0 => Schedule::Solo,
-        1 => Schedule::Even,
-        number => Schedule::Drawn(number),
-    }
 }
 
 /// Under every schedule the script of so many threads has this history, and thread 1 these answers.

@@ -1,13 +1,11 @@
-use Rattle.std.proofs.Common.{◌≡◌, List, [], ◌∷◌, ◌++◌, Option, Some, ap, sym, subst, ◌∙◌}
-use Rattle.space_reclaim.specs.declared.move_job.MoveJob.{MoveJob}
-use Rattle.barriers.specs.declared.ends.MoveEnd.{MoveEnd}
-use Rattle.cycle_journal.specs.declared.journal.CycleReport.{CycleReport}
-use Rattle.gc_cycle.specs.Reports.{AreReports}
-use Rattle.gc_cycle.proofs.Reporting.{one_report}
+use Rattle.std.proofs.Common.{◌+◌, sym, subst}
+use Rattle.gc_cycle.specs.Reports.{Reports, AreReports, mark_in}
+use Rattle.gc_cycle.proofs.Reporting.{one_more}
 use Rattle.gc_cycle.proofs.world.reporting.reports_of.Goals as goal
 
-pub returns : goal.returns
-returns c =
-    let report : CycleReport = c.in_ok-report_of.field-0 in
-    let one : c.push.new.self.items ≡ report ∷ [] = c.in_ok-push.ensures.items ∙ ap (λ (l : List CycleReport). l ++ report ∷ []) c.new-reports.ensures.items in
-    subst (λ (m : Option (MoveJob × MoveEnd)). AreReports m c.push.new.self.items) (sym c.in-Some.is) (one_report c.in-Some.job c.in-Some.end c.push.new.self.items report one c.in_ok-report_of.ensures)
+pub loop-index-preserved : goal.loop-index-preserved
+loop-index-preserved c =
+    let tells = subst (λ mark. Reports (c.loop-index.index + 1) c.job_in.result mark c.in_ok-report.report) c.mark_in.ensures c.in_ok-report.ensures in
+    let told = subst (λ ended. Reports (c.loop-index.index + 1) ended (mark_in (c.loop-index.index + 1) c.args.marks.now) c.in_ok-report.report) c.job_in.ensures tells in
+    subst (AreReports (c.loop-index.index + 1) c.args.moved c.args.marks.now) (sym c.in_ok-push.ensures.items)
+    (one_more c.args.moved c.args.marks.now c.loop-index.index c.loop-index.reports.items c.in_ok-report.report c.loop-index.invariant told)
