@@ -38,6 +38,7 @@ not_too_long r (Some held) (Some left) bytes is (given, parts, long) told short 
 output_ends : (copier : Copying) (script : Reading) (replay : Replay) (text : List ℕ) → IsOutputWith copier script replay text → ends_with copier script replay ≡ true
 output_ends copying.Stopless script replay text output = output.ends
 output_ends copying.Chicken script replay text output = output.ends
+output_ends copying.Clover script replay text output = output.ends
 
 after_on : (script : Reading) (replay : Replay) → ends_within script replay ≡ false → StepsSpent replay.steps ≡ status_after script replay
 after_on script replay on = rw on refl
@@ -46,20 +47,20 @@ after_over : (script : Reading) (replay : Replay) → ends_within script replay 
 after_over script replay over = rw over refl
 
 -- the answer to bytes that spell a script which is played
-answers_script : (bytes : List ℕ) (replay : Replay) (script : Reading) (status : Status) → IsScript bytes script → IsBuilt replay.copier script → status ≡ status_after script replay
+answers_script : (bytes : List ℕ) (replay : Replay) (script : Reading) (status : Status) → IsScript bytes script → IsBuilt script → status ≡ status_after script replay
     → (replay.schedule ≡ Solo → enough_steps script ≤ replay.steps → status ≡ Done) → Answers bytes replay status
 answers_script bytes replay script status spells built is many = record {
   played = λ other says ready. subst (λ (s : Reading). status ≡ status_after s replay) (one_script bytes script other spells says) is;
   enough = λ other says ready solo steps. many solo (subst (λ (s : Reading). enough_steps s ≤ replay.steps) (one_script bytes other script says spells) steps);
-  unbuilt = λ other says unbuilt. absurd (unbuilt (subst (IsBuilt replay.copier) (one_script bytes script other spells says) built));
+  unbuilt = λ other says unbuilt. absurd (unbuilt (subst IsBuilt (one_script bytes script other spells says) built));
   fault = λ fault is_fault. absurd (script_or_fault bytes script fault spells is_fault);
 }
 
 -- to bytes that spell another script
-answers_unbuilt : (bytes : List ℕ) (replay : Replay) (script : Reading) → IsScript bytes script → ¬ (IsBuilt replay.copier script) → Answers bytes replay NotBuilt
+answers_unbuilt : (bytes : List ℕ) (replay : Replay) (script : Reading) → IsScript bytes script → ¬ (IsBuilt script) → Answers bytes replay NotBuilt
 answers_unbuilt bytes replay script spells unbuilt = record {
-  played = λ other says ready. absurd (unbuilt (subst (IsBuilt replay.copier) (one_script bytes other script says spells) ready));
-  enough = λ other says ready solo many. absurd (unbuilt (subst (IsBuilt replay.copier) (one_script bytes other script says spells) ready));
+  played = λ other says ready. absurd (unbuilt (subst IsBuilt (one_script bytes other script says spells) ready));
+  enough = λ other says ready solo many. absurd (unbuilt (subst IsBuilt (one_script bytes other script says spells) ready));
   unbuilt = λ other says none. refl;
   fault = λ fault is_fault. absurd (script_or_fault bytes script fault spells is_fault);
 }
@@ -89,20 +90,20 @@ module _ (words : List (List ℕ)) (old new : Option (List ℕ)) (asked : Replay
       let same = same_bytes old new longer.read.bytes bytes longer.read.all honest.told in
       let spells = subst (λ (b : List ℕ). IsScript b longer.script) same longer.read.spells in
       let short : IsShort longer.script replay = subst (IsShort longer.script) same_asked longer.short in
-      inl (answers_script bytes replay longer.script (StepsSpent n) spells (subst (λ (a : Replay). IsBuilt a.copier longer.script) same_asked longer.read.built) (ap StepsSpent (n_is ∙ ap (λ (a : Replay). a.steps) same_asked) ∙ after_on longer.script replay short.on)
+      inl (answers_script bytes replay longer.script (StepsSpent n) spells longer.read.built (ap StepsSpent (n_is ∙ ap (λ (a : Replay). a.steps) same_asked) ∙ after_on longer.script replay short.on)
       (λ solo enough. absurd (omega (arith, short.few solo, enough))))
   stopped NotBuilt r fo fn is cause gave quiet =
       let same = same_bytes old new cause.bytes bytes cause.all honest.told in
-      inl (answers_unbuilt bytes replay cause.script (subst (λ (b : List ℕ). IsScript b cause.script) same cause.spells) (subst (λ (a : Replay). ¬ (IsBuilt a.copier cause.script)) same_asked cause.unbuilt))
+      inl (answers_unbuilt bytes replay cause.script (subst (λ (b : List ℕ). IsScript b cause.script) same cause.spells) cause.unbuilt)
   stopped OutOfMemory r fo fn is cause gave quiet = inr refl
   stopped Done r fo fn is cause gave quiet = absurd cause
   stopped WriteFault r fo fn is cause gave quiet = absurd cause
   stopped (Usage index) r fo fn is cause gave quiet = absurd cause
 
   -- where all is written
-  pub played : (script : Reading) (text : List ℕ) → ReadsScript asked.copier old new script → IsOutput script asked text → Answers bytes replay Done
+  pub played : (script : Reading) (text : List ℕ) → ReadsScript old new script → IsOutput script asked text → Answers bytes replay Done
   played script text read output =
       let same = same_bytes old new read.bytes bytes read.all honest.told in
       let spells = subst (λ (b : List ℕ). IsScript b script) same read.spells in
       let over : ends_within script replay ≡ true = subst (λ (a : Replay). ends_within script a ≡ true) same_asked (output_ends asked.copier script asked text output) in
-      answers_script bytes replay script Done spells (subst (λ (a : Replay). IsBuilt a.copier script) same_asked read.built) (after_over script replay over) (λ solo enough. refl)
+      answers_script bytes replay script Done spells read.built (after_over script replay over) (λ solo enough. refl)

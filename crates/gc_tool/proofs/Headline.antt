@@ -18,6 +18,7 @@ use Rattle.gc_cycle.proofs.Starting.{lawful_at_start}
 use Rattle.gc_cycle.proofs.solo.PlaysAlone.{PlaysAlone}
 use Rattle.gc_tool.specs.declared.forms.Copying.{Copying}
 use Rattle.gc_tool.specs.declared.forms.Replay.{Replay}
+use Rattle.gc_tool.specs.declared.run.TheConstants.{SALT}
 use Rattle.gc_tool.specs.declared.status.Status.{Status}
 use Rattle.gc_tool.specs.declared.status.Status.TheVariants.{Done, Usage, ReadFault, TooLong, ScriptFault, WriteFault, StepsSpent, OutOfMemory, NotBuilt}
 use Rattle.gc_tool.specs.Forms.{IsBuilt}
@@ -31,7 +32,7 @@ below n m not_above = elim (cases_order n m) [
 ]
 
 -- a run from the world of a script at its start, over any copier
-module _ {R W E M : Type 0} (kit : Kit R W E M) (by : Stepping R W E M) (script : Reading) (replay : Replay) (before after : State R W E M) (first : before ≡ opening_state kit script) (taken : after ≡ run_of kit by replay.schedule replay.steps before) where
+module _ {R W E M : Type 0} (kit : Kit R W E M) (by : Stepping R W E M) (script : Reading) (replay : Replay) (before after : State R W E M) (first : before ≡ opening_state kit script SALT) (taken : after ≡ run_of kit by replay.schedule replay.steps before) where
   same : after ≡ world_after kit by script replay
   same = taken ∙ ap (run_of kit by replay.schedule replay.steps) first
 
@@ -58,29 +59,33 @@ module _ {R W E M : Type 0} (kit : Kit R W E M) (by : Stepping R W E M) (script 
   pub not_over : is_over kit by after ≡ false → all_end kit by script replay ≡ false
   not_over going = sym (ap (is_over kit by) same) ∙ going
 
+-- Want of memory is a cause of its own.
+pub memory_stops : {R W E M : Type 0} (kit : Kit R W E M) (by : Stepping R W E M) (script : Reading) (replay : Replay) (status : Status) → status ≡ OutOfMemory → IsStopOver kit by script replay status
+memory_stops kit by script replay status is = subst (IsStopOver kit by script replay) (sym is) tt
+
 -- ---- with solo
 
 -- Over a copier that plays alone so many steps are enough: a replay that is not over has fewer.
 module _ {R W E M : Type 0} (kit : Kit R W E M) (by : Stepping R W E M) (laws : Laws kit by) (alone : PlaysAlone kit by) where
-  pub few_steps : (copier : Copying) (script : Reading) (replay : Replay) → IsBuilt copier script → all_end kit by script replay ≡ false → replay.schedule ≡ Solo → replay.steps < enough_steps script
-  few_steps copier script replay built on solo =
-      let lw : Lawful kit (opening_state kit script) = lawful_at_start kit by laws script built.fits built.room (opening_state kit script) refl in
-      let Over : Schedule → Type 0 = λ schedule. is_over kit by (run_of kit by schedule replay.steps (opening_state kit script)) ≡ true in
+  pub few_steps : (script : Reading) (replay : Replay) → IsBuilt script → all_end kit by script replay ≡ false → replay.schedule ≡ Solo → replay.steps < enough_steps script
+  few_steps script replay built on solo =
+      let lw : Lawful kit (opening_state kit script SALT) = lawful_at_start kit by laws script SALT built.fits built.room (opening_state kit script SALT) refl in
+      let Over : Schedule → Type 0 = λ schedule. is_over kit by (run_of kit by schedule replay.steps (opening_state kit script SALT)) ≡ true in
       below replay.steps (enough_steps script) (λ enough.
-      let over : all_end kit by script replay ≡ true = subst Over (sym solo) (solo_ends kit by alone laws script lw replay.steps enough) in
+      let over : all_end kit by script replay ≡ true = subst Over (sym solo) (solo_ends kit by alone laws script SALT lw replay.steps enough) in
       absurd (cc (on, over)))
 
   -- why the replay of such a script has no output
-  pub stop_of : (copier : Copying) (script : Reading) (replay : Replay) → IsBuilt copier script → ends_within script replay ≡ all_end kit by script replay → (status : Status) → IsStopOver kit by script replay status → IsStop script replay status
-  stop_of copier script replay built same (StepsSpent n) (is, on) = (is, record { on = same ∙ on; few = few_steps copier script replay built on })
-  stop_of copier script replay built same OutOfMemory stop = tt
-  stop_of copier script replay built same Done stop = absurd stop
-  stop_of copier script replay built same (Usage index) stop = absurd stop
-  stop_of copier script replay built same ReadFault stop = absurd stop
-  stop_of copier script replay built same TooLong stop = absurd stop
-  stop_of copier script replay built same (ScriptFault line kind) stop = absurd stop
-  stop_of copier script replay built same WriteFault stop = absurd stop
-  stop_of copier script replay built same NotBuilt stop = absurd stop
+  pub stop_of : (script : Reading) (replay : Replay) → IsBuilt script → ends_within script replay ≡ all_end kit by script replay → (status : Status) → IsStopOver kit by script replay status → IsStop script replay status
+  stop_of script replay built same (StepsSpent n) (is, on) = (is, record { on = same ∙ on; few = few_steps script replay built on })
+  stop_of script replay built same OutOfMemory stop = tt
+  stop_of script replay built same Done stop = absurd stop
+  stop_of script replay built same (Usage index) stop = absurd stop
+  stop_of script replay built same ReadFault stop = absurd stop
+  stop_of script replay built same TooLong stop = absurd stop
+  stop_of script replay built same (ScriptFault line kind) stop = absurd stop
+  stop_of script replay built same WriteFault stop = absurd stop
+  stop_of script replay built same NotBuilt stop = absurd stop
 
 -- ---- with the copier of the replay
 

@@ -11,6 +11,7 @@ use Rattle.heap_script.specs.FirstFault.{IsScript, IsFault}
 use Rattle.heap_script.specs.Scripts.{Reading, Fits}
 use Rattle.heap_script.specs.Words.{Word, number_of}
 use Rattle.gc_tool.specs.declared.forms.Copying.{Copying}
+use Rattle.gc_tool.specs.declared.forms.TheConstants.{MOST_CYCLES}
 use Rattle.gc_tool.specs.declared.forms.Copying.TheVariants as copying
 use Rattle.gc_tool.specs.declared.forms.Form.{Form}
 use Rattle.gc_tool.specs.declared.forms.Form.TheVariants as forms
@@ -42,16 +43,13 @@ schedule_of word =
     else if bytes_eq word (codes "even") then Some Even
     else option_map Drawn (seed_of word)
 
--- the copier of this name, if its replays are built
+-- COPIER: `stopless`, `chicken` or `clover`
 abbrev pub copying_of : Word → Option Copying
 copying_of word =
     if bytes_eq word (codes "stopless") then Some copying.Stopless
     else if bytes_eq word (codes "chicken") then Some copying.Chicken
+    else if bytes_eq word (codes "clover") then Some copying.Clover
     else None
-
--- COPIER: `stopless`, `chicken` or `clover`
-abbrev pub is_copier : Word → Bool
-is_copier word = bytes_eq word (codes "stopless") || bytes_eq word (codes "chicken") || bytes_eq word (codes "clover")
 
 -- ---- forms of words
 
@@ -75,7 +73,7 @@ places_of forms.Make = places.Number ∷ []
 
 -- what a place asks of a word
 abbrev pub fits : Place → Word → Bool
-fits places.Copier word = is_copier word
+fits places.Copier word = is_some (copying_of word)
 fits places.Schedule word = is_some (schedule_of word)
 fits places.Steps word = is_some (steps_of word)
 fits places.Number word = is_some (seed_of word)
@@ -107,7 +105,7 @@ abbrev pub replay_with : Option Copying → Option Schedule → Option ℕ → O
 replay_with (Some copier) (Some schedule) (Some steps) = Some (record { copier = copier; schedule = schedule; steps = steps })
 replay_with _ _ _ = None
 
--- what `replay COPIER SCHEDULE STEPS` asks for, where the copier's replays are built; None for other words
+-- what `replay COPIER SCHEDULE STEPS` asks for; None for other words
 abbrev pub built_replay : List Word → Option Replay
 built_replay (command ∷ copier ∷ schedule ∷ steps ∷ []) =
     if bytes_eq command (codes "replay") then replay_with (copying_of copier) (schedule_of schedule) (steps_of steps) else None
@@ -124,20 +122,15 @@ request_of words = request_behind (usage_of words) words
 
 -- ---- scripts
 
--- the most cycles that are played with a copier
-abbrev pub most_cycles : Copying → ℕ
-most_cycles copying.Stopless = 0
-most_cycles copying.Chicken = 1
-
--- A script whose cycles are played with this copier, and in which the objects of each thread fit one region of 64 words.
-pub record IsBuilt (copier : Copying) (script : Reading) : Type 0 where
+-- A script whose cycles are played, and in which the objects of each thread fit one region of 64 words.
+pub record IsBuilt (script : Reading) : Type 0 where
   pub fits : Fits script
-  pub cycles : script.cycles ≤ most_cycles copier
+  pub cycles : script.cycles ≤ MOST_CYCLES
   pub room : (thread : ℕ) → IsPass script.layout thread → rooms_of (commands_of thread script.lines) ≤ 64
 
 -- Why bytes are not played: a line has a fault, or they spell a script that is not built; want of memory has no cause.
-abbrev pub IsRefused : Copying → List ℕ → Status → Type 0
-IsRefused copier bytes (ScriptFault line kind) = IsFault bytes (line, kind)
-IsRefused copier bytes NotBuilt = (script : Reading) × IsScript bytes script × (¬ (IsBuilt copier script))
-IsRefused copier bytes OutOfMemory = Unit {0}
-IsRefused copier bytes _ = ⊥
+abbrev pub IsRefused : List ℕ → Status → Type 0
+IsRefused bytes (ScriptFault line kind) = IsFault bytes (line, kind)
+IsRefused bytes NotBuilt = (script : Reading) × IsScript bytes script × (¬ (IsBuilt script))
+IsRefused bytes OutOfMemory = Unit {0}
+IsRefused bytes _ = ⊥

@@ -11,14 +11,15 @@ use Rattle.gc_cycle.specs.declared.schedule.Schedule.TheVariants.{Solo}
 use Rattle.heap_history.specs.Arranged.{shown}
 use Rattle.barriers.specs.Kits.{Kit, Stepping}
 use Rattle.chicken_tags.specs.Chickens.{kit_of_chicken, steps_of_chicken}
-use Rattle.at_rest.specs.Knowing.{kit_at_rest}
-use Rattle.at_rest.specs.Rests.{steps_at_rest}
+use Rattle.clover_marks.specs.Clovers.{kit_of_clover, steps_of_clover}
+use Rattle.stopless_copy.specs.StoplessLaws.{kit_of_stopless, steps_of_stopless}
 use Rattle.gc_cycle.specs.Worlds.{State, opening_state}
 use Rattle.gc_cycle.specs.Runs.{run_of, is_over, enough_steps}
 use Rattle.gc_cycle.specs.Shows.{Shows}
 use Rattle.gc_tool.specs.declared.forms.Copying.{Copying}
 use Rattle.gc_tool.specs.declared.forms.Copying.TheVariants as copying
 use Rattle.gc_tool.specs.declared.forms.Replay.{Replay}
+use Rattle.gc_tool.specs.declared.run.TheConstants.{SALT}
 use Rattle.gc_tool.specs.declared.status.Status.{Status}
 use Rattle.gc_tool.specs.declared.status.Status.TheVariants.{Done, Usage, ReadFault, TooLong, ScriptFault, WriteFault, StepsSpent, OutOfMemory, NotBuilt}
 use Rattle.heap_report.specs.Reports.{history_text}
@@ -30,7 +31,7 @@ use Rattle.gc_tool.specs.Outside.{ReadsAll, Rose}
 module _ {R W E M : Type 0} (kit : Kit R W E M) (by : Stepping R W E M) where
   -- the world of a script after at most so many steps under the schedule
   abbrev pub world_after : Reading → Replay → State R W E M
-  world_after script replay = run_of kit by replay.schedule replay.steps (opening_state kit script)
+  world_after script replay = run_of kit by replay.schedule replay.steps (opening_state kit script SALT)
 
   -- all threads of the script and the collector end within the steps
   abbrev pub all_end : Reading → Replay → Bool
@@ -66,17 +67,19 @@ module _ {R W E M : Type 0} (kit : Kit R W E M) (by : Stepping R W E M) where
 
 -- ---- a replay with its copier
 
--- with `stopless` objects are never moved, and the copier is the one that moves nothing
+-- all threads of the script and the collector end within the steps, with this copier
 abbrev pub ends_with : Copying → Reading → Replay → Bool
-ends_with copying.Stopless = all_end kit_at_rest steps_at_rest
+ends_with copying.Stopless = all_end kit_of_stopless steps_of_stopless
 ends_with copying.Chicken = all_end kit_of_chicken steps_of_chicken
+ends_with copying.Clover = all_end kit_of_clover steps_of_clover
 
 abbrev pub ends_within : Reading → Replay → Bool
 ends_within script replay = ends_with replay.copier script replay
 
 abbrev pub IsOutputWith : Copying → Reading → Replay → List ℕ → Type 0
-IsOutputWith copying.Stopless = IsOutputOver kit_at_rest steps_at_rest
+IsOutputWith copying.Stopless = IsOutputOver kit_of_stopless steps_of_stopless
 IsOutputWith copying.Chicken = IsOutputOver kit_of_chicken steps_of_chicken
+IsOutputWith copying.Clover = IsOutputOver kit_of_clover steps_of_clover
 
 abbrev pub IsOutput : Reading → Replay → List ℕ → Type 0
 IsOutput script replay text = IsOutputWith replay.copier script replay text
@@ -94,12 +97,12 @@ IsStop script replay _ = ⊥
 
 -- ---- the outside
 
--- the source was read to its end, and its bytes spell this script, which is played with this copier
-pub record ReadsScript (copier : Copying) (old new : Option (List ℕ)) (script : Reading) : Type 0 where
+-- the source was read to its end, and its bytes spell this script, which is played
+pub record ReadsScript (old new : Option (List ℕ)) (script : Reading) : Type 0 where
   pub bytes : List ℕ
   pub all : ReadsAll old new bytes
   pub spells : IsScript bytes script
-  pub built : IsBuilt copier script
+  pub built : IsBuilt script
 
 -- the source was read to its end, and the first line with a fault is this one
 pub record ReadsFault (old new : Option (List ℕ)) (fault : Fault) : Type 0 where
@@ -107,18 +110,18 @@ pub record ReadsFault (old new : Option (List ℕ)) (fault : Fault) : Type 0 whe
   pub all : ReadsAll old new bytes
   pub is : IsFault bytes fault
 
--- the source was read to its end, and its bytes spell a script that is not played with this copier yet
-pub record ReadsUnbuilt (copier : Copying) (old new : Option (List ℕ)) : Type 0 where
+-- the source was read to its end, and its bytes spell a script that is not played yet
+pub record ReadsUnbuilt (old new : Option (List ℕ)) : Type 0 where
   pub bytes : List ℕ
   pub all : ReadsAll old new bytes
   pub script : Reading
   pub spells : IsScript bytes script
-  pub unbuilt : ¬ (IsBuilt copier script)
+  pub unbuilt : ¬ (IsBuilt script)
 
 -- the source was read to its end, and the replay is too short for its script
 pub record ReadsLonger (old new : Option (List ℕ)) (replay : Replay) : Type 0 where
   pub script : Reading
-  pub read : ReadsScript replay.copier old new script
+  pub read : ReadsScript old new script
   pub short : IsShort script replay
 
 -- The cause of a status with which nothing is written, where this replay was asked for. What is read is told by the bytes that the
@@ -127,7 +130,7 @@ abbrev pub IsCause : Replay → Status → Option (List ℕ) → Option (List �
 IsCause replay ReadFault old new faults_old faults_new = Rose faults_old faults_new
 IsCause replay (ScriptFault line kind) old new faults_old faults_new = ReadsFault old new (line, kind)
 IsCause replay (StepsSpent n) old new faults_old faults_new = (n ≡ replay.steps) × ReadsLonger old new replay
-IsCause replay NotBuilt old new faults_old faults_new = ReadsUnbuilt replay.copier old new
+IsCause replay NotBuilt old new faults_old faults_new = ReadsUnbuilt old new
 IsCause replay TooLong old new faults_old faults_new = Unit {0}
 IsCause replay OutOfMemory old new faults_old faults_new = Unit {0}
 IsCause replay (Usage index) old new faults_old faults_new = ⊥
@@ -139,7 +142,7 @@ pub record Asks (words : List (List ℕ)) (old new : Option (List ℕ)) (text : 
   pub script : Reading
   pub replay : Replay
   pub replay_is : request_of words ≡ Ok replay
-  pub read : ReadsScript replay.copier old new script
+  pub read : ReadsScript old new script
   pub output : IsOutput script replay text
 
 -- The words ask for so many steps of the script that was read to the end of the source, and a party has not ended within them.
@@ -161,7 +164,7 @@ status_after script replay = if ends_within script replay then Done else StepsSp
 
 -- The status of a replay of these bytes, where nothing fails: of a script that is played, of another one, and of bytes with a fault.
 pub record Answers (bytes : List ℕ) (replay : Replay) (status : Status) : Type 0 where
-  pub played : (script : Reading) → IsScript bytes script → IsBuilt replay.copier script → status ≡ status_after script replay
-  pub enough : (script : Reading) → IsScript bytes script → IsBuilt replay.copier script → replay.schedule ≡ Solo → enough_steps script ≤ replay.steps → status ≡ Done
-  pub unbuilt : (script : Reading) → IsScript bytes script → ¬ (IsBuilt replay.copier script) → status ≡ NotBuilt
+  pub played : (script : Reading) → IsScript bytes script → IsBuilt script → status ≡ status_after script replay
+  pub enough : (script : Reading) → IsScript bytes script → IsBuilt script → replay.schedule ≡ Solo → enough_steps script ≤ replay.steps → status ≡ Done
+  pub unbuilt : (script : Reading) → IsScript bytes script → ¬ (IsBuilt script) → status ≡ NotBuilt
   pub fault : (fault : Fault) → IsFault bytes fault → status ≡ ScriptFault fault.0 fault.1

@@ -8,10 +8,13 @@ ghost use Rattle.heap_script.specs.Words.{number_of};
 ghost use Rattle.gc_tool.specs.Forms as grammar;
 
 use crate::status::Status;
-use at_rest::AtRest;
 use gc_cycle::{Schedule, World};
 use heap_script::{ReadScriptFault, Script, number, read_script};
 use std::alloc::Global;
+use stopless_copy::Stopless;
+
+/// The most cycles of a script that is played, until cycles are planned.
+const MOST_CYCLES: u32 = 1;
 
 /// The most steps of a replay.
 const MOST_STEPS: u64 = 1_000_000_000;
@@ -46,12 +49,12 @@ enum Place {
     MaybeNumber,
 }
 
-/// The copiers whose replays are built.
+/// The copiers.
 #[derive(Clone, Copy, Debug, PartialEq, Eq)]
 pub enum Copying {
-    /// `stopless`, which is played by a copier that moves nothing, where a script has no cycle.
     Stopless,
     Chicken,
+    Clover,
 }
 
 /// A replay that the words ask for.
@@ -94,21 +97,16 @@ fn schedule_of(word: &str) -> Option<Schedule>
     }
 }
 
-/// The copier of this name, if its replays are built.
+/// The copier of this name.
 fn copying_of(word: &str) -> Option<Copying>
     ensures { result ≡ grammar.copying_of word.now }
 {
     match word {
         "stopless" => Some(Copying::Stopless),
         "chicken" => Some(Copying::Chicken),
+        "clover" => Some(Copying::Clover),
         _ => None,
     }
-}
-
-fn is_copier(word: &str) -> bool
-    ensures { result ≡ grammar.is_copier word.now }
-{
-    matches!(word, "stopless" | "chicken" | "clover")
 }
 
 fn form_of(word: &str) -> Option<Form>
@@ -141,7 +139,7 @@ fn fits(place: Place, word: &str) -> bool
     ensures { result ≡ grammar.fits place word.now }
 {
     match place {
-        Place::Copier => is_copier(word),
+        Place::Copier => copying_of(word).is_some(),
         Place::Schedule => schedule_of(word).is_some(),
         Place::Steps => steps_of(word).is_some(),
         Place::Number | Place::MaybeNumber => seed_of(word).is_some(),
@@ -192,7 +190,7 @@ fn usage_of(words: &[String]) -> Option<u32>
     }
 }
 
-/// What `replay COPIER SCHEDULE STEPS` asks for, where the copier's replays are built; None for other words.
+/// What `replay COPIER SCHEDULE STEPS` asks for; None for other words.
 fn built_replay(words: &[String]) -> Option<Replay>
     ensures { result ≡ grammar.built_replay (map string_bytes words.now) }
 {
@@ -222,47 +220,39 @@ pub fn replay_of(words: &[String]) -> Result<Replay, Status>
     }
 }
 
-/// Whether the cycles of a script are played with this copier.
-fn has_cycles_for(copier: Copying, script: &Script) -> bool
-    ensures { IsTrue result ↔ (script.now.cycles ≤ grammar.most_cycles copier) }
-{
-    match copier {
-        Copying::Stopless => script.cycles == 0,
-        Copying::Chicken => script.cycles <= 1,
-    }
-}
-
-fn is_built(copier: Copying, script: &Script) -> bool
+/// Whether a script is played, with whatever copier.
+fn is_built(script: &Script) -> bool
     requires { Fits script.now }
-    ensures { IsTrue result ↔ grammar.IsBuilt copier script.now }
+    ensures { IsTrue result ↔ grammar.IsBuilt script.now }
 {
-    has_cycles_for(copier, script) && World::<AtRest>::has_room_for(script)
+    // Each copier asks for the same room.
+    script.cycles <= MOST_CYCLES && World::<Stopless>::has_room_for(script)
 }
 
-/// The script that the bytes spell, to be played with this copier.
+/// The script that the bytes spell.
 ///
 /// # Errors
 ///
 /// `ScriptFault` with the first line that is at fault, `NotBuilt` for a script that is not built, and `OutOfMemory`,
 /// which has no cause of its own.
-pub fn read_built(alloc: Global, copier: Copying, bytes: &[u8]) -> Result<Script, Status>
+pub fn read_built(alloc: Global, bytes: &[u8]) -> Result<Script, Status>
     requires { length bytes.now < 2 ^ 31 }
 
     // Each answer has its cause.
-    ensures ok { IfOk result (λ script. IsScript bytes.now script × grammar.IsBuilt copier script) }
-    ensures err { IfErr result (grammar.IsRefused copier bytes.now) }
+    ensures ok { IfOk result (λ script. IsScript bytes.now script × grammar.IsBuilt script) }
+    ensures err { IfErr result (grammar.IsRefused bytes.now) }
 
     // Each cause has its answer, unless memory runs out.
-    ensures built { (script : Reading) → IsScript bytes.now script → grammar.IsBuilt copier script
+    ensures built { (script : Reading) → IsScript bytes.now script → grammar.IsBuilt script
         → (result ≡ Ok script) ⊎ (result ≡ Err Status.OutOfMemory) }
-    ensures not_built { (script : Reading) → IsScript bytes.now script → ¬ (grammar.IsBuilt copier script)
+    ensures not_built { (script : Reading) → IsScript bytes.now script → ¬ (grammar.IsBuilt script)
         → (result ≡ Err Status.NotBuilt) ⊎ (result ≡ Err Status.OutOfMemory) }
     ensures fault { (f : Fault) → IsFault bytes.now f
         → (result ≡ Err (Status.ScriptFault f.0 f.1)) ⊎ (result ≡ Err Status.OutOfMemory) }
 {
     match read_script(alloc, bytes) {
         Ok(script) => {
-            if is_built(copier, &script) {
+            if is_built(&script) {
                 Ok(script)
             } else {
                 Err(Status::NotBuilt)

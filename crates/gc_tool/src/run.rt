@@ -15,16 +15,17 @@ use crate::sink::Sink;
 use crate::source::Source;
 use crate::status::Status;
 use crate::writing::give_all;
-use at_rest::AtRest;
 use barriers::Copier;
 use chicken_tags::Chicken;
+use clover_marks::Clover;
 use gc_cycle::{Steps, World};
 use heap_report::history_report;
 use heap_script::Script;
 use std::alloc::Global;
+use stopless_copy::Stopless;
 
-/// No mark of a cycle is drawn yet, so every salt gives the same play.
-const SALT: u64 = 0;
+/// The salt that draws the marks of a replay's cycles.
+pub const SALT: u64 = 1;
 
 /// The text of a world's history, refused tries and answers.
 fn text_of<P: Copier>(alloc: Global, world: &World<P>) -> Result<Vec<u8>, Status>
@@ -49,7 +50,7 @@ where
     P::Write: Copy,
     P::Exchange: Copy,
     P::Move: Copy,
-    requires { IsBuilt replay.copier script.now }
+    requires { IsBuilt script.now }
     ensures output { IfOk result (λ text. IsOutputOver P.kit ⟦<P as Steps>⟧.by script.now replay text.items) }
     ensures stop { IfErr result (IsStopOver P.kit ⟦<P as Steps>⟧.by script.now replay) }
 {
@@ -60,23 +61,23 @@ where
     }
 }
 
-/// Plays the script, and gives the text of what happened. Without a cycle no object is moved, so `stopless` is played by
-/// the copier that moves none.
+/// Plays the script with the copier of the replay, and gives the text of what happened.
 fn play(alloc: Global, script: &Script, replay: Replay) -> Result<Vec<u8>, Status>
-    requires { IsBuilt replay.copier script.now }
+    requires { IsBuilt script.now }
     ensures output { IfOk result (λ text. IsOutput script.now replay text.items) }
     ensures stop { IfErr result (IsStop script.now replay) }
 {
     match replay.copier {
-        Copying::Stopless => play_with::<AtRest>(alloc, script, replay),
+        Copying::Stopless => play_with::<Stopless>(alloc, script, replay),
         Copying::Chicken => play_with::<Chicken>(alloc, script, replay),
+        Copying::Clover => play_with::<Clover>(alloc, script, replay),
     }
 }
 
 /// Reads a script to the end, and plays it.
 fn output_of<S: Source>(alloc: Global, replay: Replay, source: &mut S) -> Result<Vec<u8>, Status>
     ensures output { IfOk result (λ text. (script : Reading)
-        × ReadsScript replay.copier (S.left source.old) (S.left source.new) script
+        × ReadsScript (S.left source.old) (S.left source.new) script
         × IsOutput script replay text.items) }
     ensures cause { IfErr result (λ status. IsCause replay status (S.left source.old) (S.left source.new)
         (S.faults source.old) (S.faults source.new)) }
@@ -85,11 +86,11 @@ fn output_of<S: Source>(alloc: Global, replay: Replay, source: &mut S) -> Result
     ensures never_falls { S.faults source.old ≤ S.faults source.new }
 {
     let bytes = read_all(alloc, source)?;
-    let script = read_built(alloc, replay.copier, &bytes)?;
+    let script = read_built(alloc, &bytes)?;
     play(alloc, &script, replay)
 }
 
-/// Plays `replay COPIER SCHEDULE STEPS` for the copiers that are built: reads the source to its end, plays the script
+/// Plays `replay COPIER SCHEDULE STEPS` with one of the copiers: reads the source to its end, plays the script
 /// that it spells, and writes the history, the refused tries and the answers, as one piece. The words come first, then
 /// the reading, the script, the play and the writing; `OutOfMemory` has no cause of its own.
 pub fn run_plain<S: Source, K: Sink>(
@@ -118,7 +119,7 @@ pub fn run_plain<S: Source, K: Sink>(
     ensures not_built { result ≡ Status.NotBuilt
         → (request_of (map string_bytes words.now) ≡ Err Status.NotBuilt)
         ⊎ ((replay : Replay) × (request_of (map string_bytes words.now) ≡ Ok replay)
-        × ReadsUnbuilt replay.copier (S.left source.old) (S.left source.new)) }
+        × ReadsUnbuilt (S.left source.old) (S.left source.new)) }
     ensures read_fault { result ≡ Status.ReadFault → Rose (S.faults source.old) (S.faults source.new) }
     ensures too_long { Gave (S.left source.old) (S.left source.new)
         (λ given. (result ≡ Status.TooLong) ↔ (INPUT_LIMIT < length given)) }

@@ -54,7 +54,10 @@ fn tells_forms_from_other_words(rt: HostRuntime) -> Result<(), Fail> {
             "replay chicken solo 10",
             played(Copying::Chicken, Schedule::Solo, 10),
         ),
-        ("replay clover solo 10", not_built),
+        (
+            "replay clover solo 10",
+            played(Copying::Clover, Schedule::Solo, 10),
+        ),
         ("replay clover solo", usage(3)),
         ("replay clover solo 0", usage(3)),
         ("replay stopless solo 1000000001", usage(3)),
@@ -78,48 +81,37 @@ fn reads_scripts_that_are_built(rt: HostRuntime) -> Result<(), Fail> {
     let alloc = rt.alloc();
     let fault = |line, kind| Err(Status::ScriptFault { line, kind });
 
-    // The copier, the input, and the number of commands or why it is not played.
+    // The input, and the number of commands or why it is not played.
     let cases = [
         (
-            Copying::Stopless,
             b"heap 2 threads 4 quota 8 pool 256 wide 0 cycles\n1 new a 30\n2 new a 30\n1 new b 30\n2 cas a h.0 0 a\n".as_slice(),
             Ok(4),
         ),
         (
-            Copying::Stopless,
             b"; all\n\nheap 8 threads 4 quota 32 pool 256 wide 0 cycles",
             Ok(0),
         ),
         (
-            Copying::Chicken,
             b"heap 1 threads 4 quota 8 pool 256 wide 1 cycles\n1 new a 30\n1 new a 30\n1 new a 1\n",
             Ok(3),
         ),
         (
-            Copying::Chicken,
             b"heap 1 threads 4 quota 8 pool 256 wide 0 cycles\n1 new a 30\n1 new a 30\n1 new a 2\n",
             Err(Status::NotBuilt),
         ),
         (
-            Copying::Chicken,
             b"heap 1 threads 4 quota 8 pool 256 wide 2 cycles\n",
             Err(Status::NotBuilt),
         ),
         (
-            Copying::Stopless,
-            b"heap 1 threads 4 quota 8 pool 256 wide 1 cycles\n",
-            Err(Status::NotBuilt),
-        ),
-        (
-            Copying::Chicken,
             b"heap 1 threads 4 quota 8 pool 256 wide 2 cycles\n2 poll\n",
             fault(2, FaultKind::BadThread),
         ),
-        (Copying::Stopless, b"", fault(1, FaultKind::NoHeapLine)),
+        (b"", fault(1, FaultKind::NoHeapLine)),
     ];
-    for (copier, input, answer) in cases {
+    for (input, answer) in cases {
         assert_eq!(rt;
-            read_built(alloc, copier, input).map(|script| script.lines.len()),
+            read_built(alloc, input).map(|script| script.lines.len()),
             answer
         );
     }

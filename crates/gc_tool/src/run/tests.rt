@@ -47,11 +47,41 @@ const RACE: &str =
 const RACE_OUTPUT: &str =
     "entry 1 cas #0.1.0 0 1 done\nentry 2 cas #0.1.0 0 2 differs 1\nanswer 1 1 done\nanswer 2 1 differs 1\nend\n";
 
-const CYCLE: &str =
-    "heap 1 threads 1 quota 2 pool 16 wide 1 cycles\n1 put h.7 5\n1 get a h.7\n1 cas b h.7 5 6\n1 get c h.7\n";
+const TWO_CYCLES: &[u8] = b"heap 1 threads 1 quota 2 pool 16 wide 2 cycles\n";
 
-const CYCLE_OUTPUT: &str =
-    "entry 1 put #0.1.7 5 wrote\nentry 1 get #0.1.7 got 5\nentry 1 cas #0.1.7 5 6 done\nentry 1 get #0.1.7 got 6\nanswer 1 1 ok\nanswer 1 2 5\nanswer 1 3 done\nanswer 1 4 6\nend\n";
+// A session in whose cycle the thread has retired.
+const DROP: &[u8] =
+    b"heap 1 threads 4 quota 8 pool 256 wide 1 cycles\n1 new a 2\n1 put a.0 5\n1 get b a.0\n1 drop a\n";
+
+const DROP_OUTPUT: &[u8] =
+    b"entry 1 new #1.1 2 made\nentry 1 put #1.1.0 5 wrote\nentry 1 get #1.1.0 got 5\nanswer 1 1 #1.1\nanswer 1 2 ok\nanswer 1 3 5\nanswer 1 4 ok\nend\n";
+
+const CYCLE: &[u8] =
+    b"heap 1 threads 1 quota 2 pool 16 wide 1 cycles\n1 put h.7 5\n1 get a h.7\n1 cas b h.7 5 6\n1 get c h.7\n";
+
+const CYCLE_OUTPUT: &[u8] =
+    b"entry 1 put #0.1.7 5 wrote\nentry 1 get #0.1.7 got 5\nentry 1 cas #0.1.7 5 6 done\nentry 1 get #0.1.7 got 6\nanswer 1 1 ok\nanswer 1 2 5\nanswer 1 3 done\nanswer 1 4 6\nend\n";
+
+// Under `even` the last six calls meet a wide object: a get and a put whose value is in the original, a cas and a get
+// whose value is in the wide object, and a put and a get whose value is in the copy.
+const WIDE: &[u8] =
+    b"heap 1 threads 1 quota 2 pool 16 wide 1 cycles\n1 put h.7 5\n1 get a h.7\n1 get a h.7\n1 get a h.7\n1 get a h.7\n1 get a h.7\n1 put h.7 6\n1 cas b h.7 6 7\n1 get c h.7\n1 put h.0 8\n1 get d h.0\n";
+
+const WIDE_OUTPUT: &[u8] =
+    b"entry 1 put #0.1.7 5 wrote\nentry 1 get #0.1.7 got 5\nentry 1 get #0.1.7 got 5\nentry 1 get #0.1.7 got 5\nentry 1 get #0.1.7 got 5\nentry 1 get #0.1.7 got 5\nentry 1 put #0.1.7 6 wrote\nentry 1 cas #0.1.7 6 7 done\nentry 1 get #0.1.7 got 7\nentry 1 put #0.1.0 8 wrote\nentry 1 get #0.1.0 got 8\nanswer 1 1 ok\nanswer 1 2 5\nanswer 1 3 5\nanswer 1 4 5\nanswer 1 5 5\nanswer 1 6 5\nanswer 1 7 ok\nanswer 1 8 done\nanswer 1 9 7\nanswer 1 10 ok\nanswer 1 11 8\nend\n";
+
+// The value is the first candidate for the mark of the cycle.
+const DRAWN: &[u8] =
+    b"heap 1 threads 1 quota 2 pool 16 wide 1 cycles\n1 put h.0 52245546284806\n1 get a h.0\n";
+
+const DRAWN_OUTPUT: &[u8] =
+    b"entry 1 put #0.1.0 52245546284806 wrote\nentry 1 get #0.1.0 got 52245546284806\nanswer 1 1 ok\nanswer 1 2 52245546284806\nend\n";
+
+const NO_ENTRY: &[u8] =
+    b"heap 1 threads 1 quota 2 pool 16 wide 1 cycles\n1 get a b.0\n1 get a h.8\n1 put h.29 1\n";
+
+const NO_ENTRY_OUTPUT: &[u8] =
+    b"answer 1 1 nolink\nanswer 1 2 nofield 8\nanswer 1 3 nofield 8\nend\n";
 
 // Plays an input by these words, and compares the status and what was written.
 fn expect_play(
@@ -98,21 +128,44 @@ fn plays_a_script_or_says_why_not(rt: HostRuntime) -> Result<(), Fail> {
             RACE_OUTPUT.as_bytes(),
         ),
         ("replay chicken solo 20", SESSION, Status::Done, OUTPUT),
+        ("replay clover solo 20", SESSION, Status::Done, OUTPUT),
         (
-            "replay chicken even 1000",
-            CYCLE.as_bytes(),
-            Status::Done,
-            CYCLE_OUTPUT.as_bytes(),
+            "replay stopless solo 10",
+            DROP,
+            Status::StepsSpent { n: 10 },
+            b"",
         ),
         (
             "replay stopless even 1000",
-            CYCLE.as_bytes(),
+            TWO_CYCLES,
             Status::NotBuilt,
             b"",
         ),
     ];
     for (words, input, status, output) in cases {
         expect_play(&rt, alloc, words, input, status, output)?;
+    }
+    Ok(())
+}
+
+// Beside a cycle, which the output does not tell, whatever copier moves the object.
+#[test]
+fn plays_a_script_beside_a_cycle(rt: HostRuntime) -> Result<(), Fail> {
+    let alloc = rt.alloc();
+    let cases = [
+        ("solo 1000000", DROP, DROP_OUTPUT),
+        ("even 1000", CYCLE, CYCLE_OUTPUT),
+        ("even 1000", WIDE, WIDE_OUTPUT),
+        ("7 1000", WIDE, WIDE_OUTPUT),
+        ("solo 1000000", DRAWN, DRAWN_OUTPUT),
+        ("even 1000", DRAWN, DRAWN_OUTPUT),
+        ("solo 1000", NO_ENTRY, NO_ENTRY_OUTPUT),
+    ];
+    for copier in ["stopless", "chicken", "clover"] {
+        for (schedule, input, output) in cases {
+            let words = format!(in alloc; "replay {copier} {schedule}")?;
+            expect_play(&rt, alloc, &words, input, Status::Done, output)?;
+        }
     }
     Ok(())
 }
@@ -167,7 +220,7 @@ fn reads_nothing_for_other_words(rt: HostRuntime) -> Result<(), Fail> {
         ("", Status::Usage { index: 0 }),
         ("run brooks", Status::Usage { index: 1 }),
         ("replay stopless solo 0", Status::Usage { index: 3 }),
-        ("replay clover solo 10", Status::NotBuilt),
+        ("run clover", Status::NotBuilt),
         ("check", Status::NotBuilt),
     ];
     for (words, status) in cases {
