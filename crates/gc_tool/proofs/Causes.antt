@@ -1,5 +1,5 @@
 -- What the cause of a status says where the outside is honest.
-use Rattle.std.proofs.Common.{◌≡◌, ℕ, ◌<◌, ◌≤◌, ◌⊎◌, ◌↔◌, inl, inr, List, length, true, false, Option, Some, None, Result, Ok, Err, refl, sym, ap, ◌∙◌, subst, arith, length-append}
+use Rattle.std.proofs.Common.{◌≡◌, ◌≢◌, ℕ, ◌<◌, ◌≤◌, ◌⊎◌, ◌↔◌, inl, inr, List, length, true, false, Option, Some, None, Result, Ok, Err, refl, sym, ap, ◌∙◌, subst, arith, length-append}
 use Rattle.std.specs.Prelude.{IsErrOf}
 use Rattle.heap_script.specs.Scripts.{Reading}
 use Rattle.heap_script.specs.FirstFault.{IsScript, IsFault}
@@ -9,7 +9,7 @@ use Rattle.gc_tool.specs.declared.forms.Replay.{Replay}
 use Rattle.gc_tool.specs.declared.status.Status.{Status}
 use Rattle.gc_tool.specs.declared.status.Status.TheVariants.{Done, Usage, ReadFault, TooLong, ScriptFault, WriteFault, StepsSpent, OutOfMemory, NotBuilt}
 use Rattle.gc_tool.specs.Forms.{request_of, IsBuilt}
-use Rattle.gc_tool.specs.Outside.{Rose, Gave, ReadsAll}
+use Rattle.gc_tool.specs.Outside.{Gave, ReadsAll}
 use Rattle.gc_cycle.specs.declared.schedule.Schedule.TheVariants.{Solo}
 use Rattle.gc_cycle.specs.Runs.{enough_steps}
 use Rattle.gc_tool.specs.declared.forms.Copying.{Copying}
@@ -80,8 +80,8 @@ module _ (words : List (List ℕ)) (old new : Option (List ℕ)) (asked : Replay
 
   -- where nothing is written
   pub stopped : {T : Type 0} (status : Status) (r : Result T Status) (faults_old faults_new : ℕ) → r ≡ Err status → IsCause asked status old new faults_old faults_new
-      → Gave old new (λ given. IsErrOf r TooLong ↔ (1048576 < length given)) → ¬ (Rose faults_old faults_new) → Answers bytes replay status ⊎ (status ≡ OutOfMemory)
-  stopped ReadFault r fo fn is cause gave quiet = absurd (quiet cause)
+      → Gave old new (λ given. IsErrOf r TooLong ↔ (1048576 < length given)) → status ≢ ReadFault → Answers bytes replay status ⊎ (status ≡ OutOfMemory)
+  stopped ReadFault r fo fn is cause gave quiet = absurd (quiet refl)
   stopped TooLong r fo fn is cause gave quiet = absurd (not_too_long r old new bytes is gave honest.told honest.short)
   stopped (ScriptFault line kind) r fo fn is cause gave quiet =
       let same = same_bytes old new cause.bytes bytes cause.all honest.told in

@@ -18,7 +18,6 @@ use Rattle.gc_cycle.proofs.Starting.{lawful_at_start}
 use Rattle.gc_cycle.proofs.solo.PlaysAlone.{PlaysAlone}
 use Rattle.gc_tool.specs.declared.forms.Copying.{Copying}
 use Rattle.gc_tool.specs.declared.forms.Replay.{Replay}
-use Rattle.gc_tool.specs.declared.run.TheConstants.{SALT}
 use Rattle.gc_tool.specs.declared.status.Status.{Status}
 use Rattle.gc_tool.specs.declared.status.Status.TheVariants.{Done, Usage, ReadFault, TooLong, ScriptFault, WriteFault, StepsSpent, OutOfMemory, NotBuilt}
 use Rattle.gc_tool.specs.Forms.{IsBuilt}
@@ -32,7 +31,7 @@ below n m not_above = elim (cases_order n m) [
 ]
 
 -- a run from the world of a script at its start, over any copier
-module _ {R W E M : Type 0} (kit : Kit R W E M) (by : Stepping R W E M) (script : Reading) (replay : Replay) (before after : State R W E M) (first : before ≡ opening_state kit script SALT) (taken : after ≡ run_of kit by replay.schedule replay.steps before) where
+module _ {R W E M : Type 0} (kit : Kit R W E M) (by : Stepping R W E M) (script : Reading) (replay : Replay) (before after : State R W E M) (first : before ≡ opening_state kit script 1) (taken : after ≡ run_of kit by replay.schedule replay.steps before) where
   same : after ≡ world_after kit by script replay
   same = taken ∙ ap (run_of kit by replay.schedule replay.steps) first
 
@@ -65,14 +64,14 @@ memory_stops kit by script replay status is = subst (IsStopOver kit by script re
 
 -- ---- with solo
 
--- Over a copier that plays alone so many steps are enough: a replay that is not over has fewer.
+-- Over a copier that plays alone the steps are enough: a replay that is not over has fewer.
 module _ {R W E M : Type 0} (kit : Kit R W E M) (by : Stepping R W E M) (laws : Laws kit by) (alone : PlaysAlone kit by) where
   pub few_steps : (script : Reading) (replay : Replay) → IsBuilt script → all_end kit by script replay ≡ false → replay.schedule ≡ Solo → replay.steps < enough_steps script
   few_steps script replay built on solo =
-      let lw : Lawful kit (opening_state kit script SALT) = lawful_at_start kit by laws script SALT built.fits built.room (opening_state kit script SALT) refl in
-      let Over : Schedule → Type 0 = λ schedule. is_over kit by (run_of kit by schedule replay.steps (opening_state kit script SALT)) ≡ true in
+      let lw : Lawful kit (opening_state kit script 1) = lawful_at_start kit by laws script 1 built.fits built.room (opening_state kit script 1) refl in
+      let Over : Schedule → Type 0 = λ schedule. is_over kit by (run_of kit by schedule replay.steps (opening_state kit script 1)) ≡ true in
       below replay.steps (enough_steps script) (λ enough.
-      let over : all_end kit by script replay ≡ true = subst Over (sym solo) (solo_ends kit by alone laws script SALT lw replay.steps enough) in
+      let over : all_end kit by script replay ≡ true = subst Over (sym solo) (solo_ends kit by alone laws script 1 lw replay.steps enough) in
       absurd (cc (on, over)))
 
   -- why the replay of such a script has no output

@@ -1,4 +1,4 @@
 pub mod Causes
-mod FormLaws
 pub mod Headline
 pub mod Known
+mod StatusLines

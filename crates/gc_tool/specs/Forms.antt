@@ -1,5 +1,5 @@
 -- Which words and which inputs this program takes.
-use Rattle.std.specs.Prelude.{ℕ, ◌+◌, ◌-◌, ◌^◌, ◌≤◌, List, [], ◌∷◌, Bool, true, false, nat_le, ◌&&◌, ◌||◌, if◌then◌else◌, Option, Some, None, Result, Err, is_some, option_map, codes}
+use Rattle.std.specs.Prelude.{◌≡◌, ℕ, ◌+◌, ◌-◌, ◌^◌, ◌≤◌, List, [], ◌∷◌, map, Vec, nat_le, ◌&&◌, if◌then◌else◌, Option, Some, None, Result, Ok, Err, option_map, codes}
 use Rattle.std.specs.Option.{ok_or}
 use Rattle.std.specs.Str.{bytes_eq}
 use Rattle.heap_words.specs.Layouts.{IsPass}
@@ -8,15 +8,13 @@ use Rattle.gc_cycle.specs.declared.schedule.Schedule.{Schedule}
 use Rattle.gc_cycle.specs.declared.schedule.Schedule.TheVariants.{Solo, Even, Drawn}
 use Rattle.heap_script.specs.Allowed.{commands_of}
 use Rattle.heap_script.specs.FirstFault.{IsScript, IsFault}
+use Rattle.heap_script.specs.Grammar.{◌>>=◌}
 use Rattle.heap_script.specs.Scripts.{Reading, Fits}
 use Rattle.heap_script.specs.Words.{Word, number_of}
 use Rattle.gc_tool.specs.declared.forms.Copying.{Copying}
-use Rattle.gc_tool.specs.declared.forms.TheConstants.{MOST_CYCLES}
 use Rattle.gc_tool.specs.declared.forms.Copying.TheVariants as copying
-use Rattle.gc_tool.specs.declared.forms.Form.{Form}
-use Rattle.gc_tool.specs.declared.forms.Form.TheVariants as forms
-use Rattle.gc_tool.specs.declared.forms.Place.{Place}
-use Rattle.gc_tool.specs.declared.forms.Place.TheVariants as places
+use Rattle.gc_tool.specs.declared.forms.Asked.{Asked}
+use Rattle.gc_tool.specs.declared.forms.Asked.TheVariants as asked
 use Rattle.gc_tool.specs.declared.forms.Replay.{Replay}
 use Rattle.gc_tool.specs.declared.status.Status.{Status}
 use Rattle.gc_tool.specs.declared.status.Status.TheVariants.{Usage, ScriptFault, OutOfMemory, NotBuilt}
@@ -53,79 +51,92 @@ copying_of word =
 
 -- ---- forms of words
 
--- the form that begins with this word
-abbrev pub form_of : Word → Option Form
-form_of word =
-    if bytes_eq word (codes "run") then Some forms.Run
-    else if bytes_eq word (codes "load") then Some forms.Load
-    else if bytes_eq word (codes "replay") then Some forms.Replay
-    else if bytes_eq word (codes "check") then Some forms.Check
-    else if bytes_eq word (codes "make") then Some forms.Make
-    else None
+-- the words of a list, each as its bytes
+abbrev pub words_of : {A : Type 0} → List (Vec ℕ A) → List Word
+words_of words = map (λ word. word.items) words
 
--- the places of a form behind its first word
-abbrev pub places_of : Form → List Place
-places_of forms.Run = places.Copier ∷ places.MaybeNumber ∷ []
-places_of forms.Load = places.Copier ∷ places.Number ∷ []
-places_of forms.Replay = places.Copier ∷ places.Schedule ∷ places.Steps ∷ []
-places_of forms.Check = []
-places_of forms.Make = places.Number ∷ []
+-- What was read, against what the grammar gives: seen by `view` it is that value, or the index of that word.
+abbrev pub Gives : {X Y : Type 0} → (X → Y) → Result X ℕ → Result Y ℕ → Type 0
+Gives view (Ok x) read = read ≡ Ok (view x)
+Gives view (Err index) read = read ≡ Err index
 
--- what a place asks of a word
-abbrev pub fits : Place → Word → Bool
-fits places.Copier word = is_some (copying_of word)
-fits places.Schedule word = is_some (schedule_of word)
-fits places.Steps word = is_some (steps_of word)
-fits places.Number word = is_some (seed_of word)
-fits places.MaybeNumber word = is_some (seed_of word)
+-- a word that is due, and the words after it; where it is missing, its index is the number of words
+abbrev pub due : ℕ → List Word → Result (Word × List Word) ℕ
+due index [] = Err index
+due index (word ∷ later) = Ok (word, later)
 
--- whether the word of a place may be missing
-abbrev pub is_optional : Place → Bool
-is_optional places.MaybeNumber = true
-is_optional _ = false
+-- no further word stands
+abbrev pub ended : ℕ → List Word → Result (Unit {0}) ℕ
+ended index [] = Ok tt
+ended index (word ∷ later) = Err index
 
--- The index of the first word that does not fit its place, or of one that is missing; a further word has no place.
-abbrev pub misfit_from : ℕ → List Place → List Word → Option ℕ
-misfit_from index [] [] = None
-misfit_from index [] (word ∷ later) = Some index
-misfit_from index (place ∷ places) [] = if is_optional place then None else Some index
-misfit_from index (place ∷ places) (word ∷ later) = if fits place word then misfit_from (index + 1) places later else Some index
+-- COPIER SCHEDULE STEPS, after `replay`
+unfoldable pub replay_form : List Word → Result Replay ℕ
+replay_form words = do
+  a ← due 1 words
+  copier ← ok_or (copying_of a.0) 1
+  b ← due 2 a.1
+  schedule ← ok_or (schedule_of b.0) 2
+  c ← due 3 b.1
+  steps ← ok_or (steps_of c.0) 3
+  _ ← ended 4 c.1
+  Ok (record { copier = copier; schedule = schedule; steps = steps })
 
-abbrev pub misfit_of : Option Form → List Word → Option ℕ
-misfit_of None later = Some 0
-misfit_of (Some form) later = misfit_from 1 (places_of form) later
+-- a NUMBER at this index, and no further word
+unfoldable pub number_form : ℕ → List Word → Result (Unit {0}) ℕ
+number_form index words = do
+  a ← due index words
+  _ ← ok_or (seed_of a.0) index
+  ended (index + 1) a.1
 
--- The index of the first word that is wrong, counted from 0, or the number of words where one is missing; None: they
--- are a form.
-abbrev pub usage_of : List Word → Option ℕ
-usage_of [] = Some 0
-usage_of (first ∷ later) = misfit_of (form_of first) later
+-- nothing, or a NUMBER at this index and no further word
+abbrev pub maybe_number_form : ℕ → List Word → Result (Unit {0}) ℕ
+maybe_number_form index [] = Ok tt
+maybe_number_form index (word ∷ later) = number_form index (word ∷ later)
 
-abbrev pub replay_with : Option Copying → Option Schedule → Option ℕ → Option Replay
-replay_with (Some copier) (Some schedule) (Some steps) = Some (record { copier = copier; schedule = schedule; steps = steps })
-replay_with _ _ _ = None
+-- COPIER, after `load` or `run`, and the words after it
+unfoldable pub copier_form : List Word → Result (List Word) ℕ
+copier_form words = do
+  a ← due 1 words
+  _ ← ok_or (copying_of a.0) 1
+  Ok a.1
 
--- what `replay COPIER SCHEDULE STEPS` asks for; None for other words
-abbrev pub built_replay : List Word → Option Replay
-built_replay (command ∷ copier ∷ schedule ∷ steps ∷ []) =
-    if bytes_eq command (codes "replay") then replay_with (copying_of copier) (schedule_of schedule) (steps_of steps) else None
-built_replay _ = None
+-- a form that is not built yet
+abbrev pub unbuilt : Result (Unit {0}) ℕ → Result Asked ℕ
+unbuilt (Ok _) = Ok asked.Unbuilt
+unbuilt (Err index) = Err index
 
--- the replay that a form asks for; no other form is built
-abbrev pub request_behind : Option ℕ → List Word → Result Replay Status
-request_behind (Some index) words = Err (Usage index)
-request_behind None words = ok_or (built_replay words) NotBuilt
+-- What the first word and those after it ask for; else the index of the first word that does not fit, counted from 0.
+unfoldable pub form_of : Word → List Word → Result Asked ℕ
+form_of first later =
+    if bytes_eq first (codes "replay") then (do
+      replay ← replay_form later
+      Ok (asked.Replay replay))
+    else if bytes_eq first (codes "run") then unbuilt (copier_form later >>= maybe_number_form 2)
+    else if bytes_eq first (codes "load") then unbuilt (copier_form later >>= number_form 2)
+    else if bytes_eq first (codes "check") then unbuilt (ended 1 later)
+    else if bytes_eq first (codes "make") then unbuilt (number_form 1 later)
+    else Err 0
 
 -- What the words ask for: words that are no form are `Usage`, and forms that are not built yet `NotBuilt`.
+abbrev pub request_from : Result Asked ℕ → Result Replay Status
+request_from (Ok (asked.Replay replay)) = Ok replay
+request_from (Ok asked.Unbuilt) = Err NotBuilt
+request_from (Err index) = Err (Usage index)
+
+abbrev pub asked_by : List Word → Result Asked ℕ
+asked_by [] = Err 0
+asked_by (first ∷ later) = form_of first later
+
 abbrev pub request_of : List Word → Result Replay Status
-request_of words = request_behind (usage_of words) words
+request_of words = request_from (asked_by words)
 
 -- ---- scripts
 
 -- A script whose cycles are played, and in which the objects of each thread fit one region of 64 words.
 pub record IsBuilt (script : Reading) : Type 0 where
   pub fits : Fits script
-  pub cycles : script.cycles ≤ MOST_CYCLES
+  pub cycles : script.cycles ≤ 1
   pub room : (thread : ℕ) → IsPass script.layout thread → rooms_of (commands_of thread script.lines) ≤ 64
 
 -- Why bytes are not played: a line has a fault, or they spell a script that is not built; want of memory has no cause.

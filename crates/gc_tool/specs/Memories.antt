@@ -1,5 +1,6 @@
 -- A source and a sink in memory, of which each call is known exactly.
-use Rattle.std.specs.Prelude.{◌≡◌, ℕ, ◌+◌, ◌-◌, ◌^◌, ◌<◌, ◌⊎◌, min, List, ◌++◌, length, drop, Contains}
+use Rattle.std.specs.Prelude.{◌≡◌, ℕ, ◌-◌, ◌<◌, ◌⊎◌, min, List, ◌++◌, length, drop, Contains}
+use Rattle.gc_tool.specs.Outside.{one_more}
 
 -- the bytes that are left, how many a call moves at most, the numbers of the calls that fail,
 -- and how many calls were made and failed
@@ -19,15 +20,11 @@ pub record MemoryToWrite : Type 0 where
   pub calls : ℕ
   pub faults : ℕ
 
--- one more, up to the last number of 64 bits
-abbrev pub one_more : ℕ → ℕ
-one_more n = min (n + 1) (2 ^ 64 - 1)
-
--- how many bytes a call moves into a buffer of so many
+-- how many bytes a call moves into a buffer of this length
 abbrev pub count_to_take : MemoryToRead → ℕ → ℕ
 count_to_take source buffer = min (min source.piece buffer) (length source.left)
 
--- the source after it gave so many bytes
+-- the source after it gave this number of bytes
 abbrev pub after_taking : MemoryToRead → ℕ → MemoryToRead
 after_taking source count = record source { left = drop count source.left; calls = one_more source.calls }
 
@@ -39,7 +36,7 @@ after_failing_to_take source = record source { calls = one_more source.calls; fa
 abbrev pub FailsToTake : MemoryToRead → Type 0
 FailsToTake source = Contains source.fails (one_more source.calls)
 
--- how many of so many bytes a call takes
+-- how many bytes of a piece of this length a call takes
 abbrev pub count_to_give : MemoryToWrite → ℕ → ℕ
 count_to_give sink bytes = min (min sink.piece (sink.room - length sink.held)) bytes
 

@@ -1,10 +1,17 @@
 -- What a source gave and a sink took, where they tell it, and their counts of faults.
-use Rattle.std.specs.Prelude.{◌≡◌, ℕ, ◌-◌, ◌^◌, ◌<◌, ◌⊎◌, List, [], ◌++◌, ⊤, Option, Some, None}
+use Rattle.std.specs.Prelude.{◌≡◌, ℕ, ◌+◌, ◌-◌, ◌^◌, ◌≤◌, min, List, [], ◌++◌, length, take, ⊤, Option, Some, None, slice_get}
+use Rattle.std.specs.declared.env.FillError.{FillError}
+use Rattle.std.specs.declared.env.FillError.TheVariants.{NotPresent, TooLong}
+use Rattle.std.specs.Prelude.{Result, Ok, Err}
 use Rattle.std.specs.Io.KnownBytes.{Appends}
 
--- a count of faults rose in a call; a call that found the count at its last value is meant too, since it stays there
+-- one more, up to the last number of 64 bits
+abbrev pub one_more : ℕ → ℕ
+one_more n = min (n + 1) (2 ^ 64 - 1)
+
+-- a count of faults rose by one, or stays at its last value
 abbrev pub Rose : ℕ → ℕ → Type 0
-Rose old new = (old < new) ⊎ (old ≡ 2 ^ 64 - 1)
+Rose old new = new ≡ one_more old
 
 -- the source told these bytes, and has none left now
 abbrev pub ReadsAll : Option (List ℕ) → Option (List ℕ) → List ℕ → Type 0
@@ -24,3 +31,9 @@ AppendsUpTo old new text rest = (taken : List ℕ) × (taken ++ rest ≡ text) �
 -- the sink took the first bytes of a text, and perhaps not all of it
 abbrev pub AppendsPrefix : Option (List ℕ) → Option (List ℕ) → List ℕ → Type 0
 AppendsPrefix old new text = (rest : List ℕ) × AppendsUpTo old new text rest
+
+-- What a call for the word of a place has put into a buffer: that word, nothing past the last word, or nothing where it is too long.
+abbrev pub IsWord : List (List ℕ) → ℕ → Result ℕ FillError → List ℕ → Type 0
+IsWord words place (Ok count) buffer = slice_get words place ≡ Some (take count buffer)
+IsWord words place (Err NotPresent) buffer = length words ≤ place
+IsWord words place (Err TooLong) buffer = ⊤

@@ -19,7 +19,6 @@ use Rattle.gc_cycle.specs.Shows.{Shows}
 use Rattle.gc_tool.specs.declared.forms.Copying.{Copying}
 use Rattle.gc_tool.specs.declared.forms.Copying.TheVariants as copying
 use Rattle.gc_tool.specs.declared.forms.Replay.{Replay}
-use Rattle.gc_tool.specs.declared.run.TheConstants.{SALT}
 use Rattle.gc_tool.specs.declared.status.Status.{Status}
 use Rattle.gc_tool.specs.declared.status.Status.TheVariants.{Done, Usage, ReadFault, TooLong, ScriptFault, WriteFault, StepsSpent, OutOfMemory, NotBuilt}
 use Rattle.heap_report.specs.Reports.{history_text}
@@ -29,9 +28,9 @@ use Rattle.gc_tool.specs.Outside.{ReadsAll, Rose}
 -- ---- a replay, over any copier
 
 module _ {R W E M : Type 0} (kit : Kit R W E M) (by : Stepping R W E M) where
-  -- the world of a script after at most so many steps under the schedule
+  -- the world of a script after at most the replay's steps under its schedule
   abbrev pub world_after : Reading → Replay → State R W E M
-  world_after script replay = run_of kit by replay.schedule replay.steps (opening_state kit script SALT)
+  world_after script replay = run_of kit by replay.schedule replay.steps (opening_state kit script 1)
 
   -- all threads of the script and the collector end within the steps
   abbrev pub all_end : Reading → Replay → Bool
@@ -145,7 +144,7 @@ pub record Asks (words : List (List ℕ)) (old new : Option (List ℕ)) (text : 
   pub read : ReadsScript old new script
   pub output : IsOutput script replay text
 
--- The words ask for so many steps of the script that was read to the end of the source, and a party has not ended within them.
+-- The words ask for this number of steps of the script that was read to the end of the source, and a party has not ended within them.
 pub record Spends (words : List (List ℕ)) (old new : Option (List ℕ)) (n : ℕ) : Type 0 where
   pub replay : Replay
   pub replay_is : request_of words ≡ Ok replay

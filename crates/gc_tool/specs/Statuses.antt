@@ -1,5 +1,5 @@
 -- How the program ends.
-use Rattle.std.specs.Prelude.{◌≡◌, ℕ, List, [], ◌++◌, ◌⊎◌, codes}
+use Rattle.std.specs.Prelude.{◌≡◌, ℕ, List, [], ◌∷◌, ◌++◌, ◌⊎◌, codes}
 use Rattle.std.specs.Fmt.{decimal}
 use Rattle.heap_script.specs.declared.fault.FaultKind.{FaultKind}
 use Rattle.heap_script.specs.declared.fault.FaultKind.TheVariants.{NoHeapLine, BadWord, BadNumber, BadThread, BadRegister, TooManyLines, NotAscii, BadLayout}
@@ -40,6 +40,11 @@ text_of WriteFault = codes "gc_tool: writing failed"
 text_of (StepsSpent n) = codes "gc_tool: " ++ decimal n ++ codes " steps spent"
 text_of OutOfMemory = codes "gc_tool: out of memory"
 text_of NotBuilt = codes "gc_tool: not built yet"
+
+-- the line of it, which ends in LF; nothing for a whole output
+abbrev pub line_of : Status → List ℕ
+line_of Done = []
+line_of status = text_of status ++ 10 ∷ []
 
 -- the ends that reading can have
 abbrev pub IsOfReading : Status → Type 0

@@ -1,6 +1,6 @@
 //! Which words and which inputs this program takes.
 
-ghost use Rattle.std.specs.Prelude.{◌≡◌, ℕ, ◌≤◌, ◌<◌, ◌^◌, ◌↔◌, length, map, Some, Ok, Err, IsTrue, IfOk, IfErr, IsErrOf, ◌⊎◌, string_bytes};
+ghost use Rattle.std.specs.Prelude.{◌≡◌, ℕ, ◌<◌, ◌^◌, ◌↔◌, length, Some, Ok, Err, IsTrue, IfOk, IfErr, IsErrOf, ◌⊎◌};
 ghost use Rattle.heap_script.specs.FirstFault.{IsScript, IsFault};
 ghost use Rattle.heap_script.specs.Grammar.{Fault};
 ghost use Rattle.heap_script.specs.Scripts.{Reading, Fits};
@@ -19,36 +19,6 @@ const MOST_CYCLES: u32 = 1;
 /// The most steps of a replay.
 const MOST_STEPS: u64 = 1_000_000_000;
 
-/// A form of words, by its first word.
-#[derive(Clone, Copy)]
-enum Form {
-    /// `run COPIER` and `run COPIER NUMBER`
-    Run,
-    /// `load COPIER NUMBER`
-    Load,
-    /// `replay COPIER SCHEDULE STEPS`
-    Replay,
-    /// `check`
-    Check,
-    /// `make NUMBER`
-    Make,
-}
-
-/// What a word after the first has to be.
-#[derive(Clone, Copy)]
-enum Place {
-    /// `stopless`, `chicken` or `clover`
-    Copier,
-    /// `solo`, `even` or a NUMBER
-    Schedule,
-    /// A number from 1 to 1,000,000,000.
-    Steps,
-    /// A number below 2^64.
-    Number,
-    /// A NUMBER, or no word.
-    MaybeNumber,
-}
-
 /// The copiers.
 #[derive(Clone, Copy, Debug, PartialEq, Eq)]
 pub enum Copying {
@@ -65,144 +35,161 @@ pub struct Replay {
     pub steps: u64,
 }
 
+/// What the words ask for.
+#[derive(Clone, Copy, Debug, PartialEq, Eq)]
+enum Asked {
+    Replay(Replay),
+    /// A form that is not built yet.
+    Unbuilt,
+}
+
 /// The number that the word is, if it is within both limits.
-fn number_within(word: &str, low: u64, high: u64) -> Option<u64>
+fn number_within(word: &[u8], low: u64, high: u64) -> Option<u64>
     ensures { result ≡ grammar.within low high (number_of word.now) }
 {
-    match number(word.as_bytes()) {
+    match number(word) {
         Some(n) if u128::from(low) <= n && n <= u128::from(high) => Some(n as u64),
         _ => None,
     }
 }
 
-fn seed_of(word: &str) -> Option<u64>
+fn seed_of(word: &[u8]) -> Option<u64>
     ensures { result ≡ grammar.seed_of word.now }
 {
     number_within(word, 0, u64::MAX)
 }
 
-fn steps_of(word: &str) -> Option<u64>
+fn steps_of(word: &[u8]) -> Option<u64>
     ensures { result ≡ grammar.steps_of word.now }
 {
     number_within(word, 1, MOST_STEPS)
 }
 
-fn schedule_of(word: &str) -> Option<Schedule>
+fn schedule_of(word: &[u8]) -> Option<Schedule>
     ensures { result ≡ grammar.schedule_of word.now }
 {
-    match word {
-        "solo" => Some(Schedule::Solo),
-        "even" => Some(Schedule::Even),
-        _ => seed_of(word).map(Schedule::Drawn),
+    if word == b"solo".as_slice() {
+        Some(Schedule::Solo)
+    } else if word == b"even".as_slice() {
+        Some(Schedule::Even)
+    } else {
+        seed_of(word).map(Schedule::Drawn)
     }
 }
 
 /// The copier of this name.
-fn copying_of(word: &str) -> Option<Copying>
+fn copying_of(word: &[u8]) -> Option<Copying>
     ensures { result ≡ grammar.copying_of word.now }
 {
-    match word {
-        "stopless" => Some(Copying::Stopless),
-        "chicken" => Some(Copying::Chicken),
-        "clover" => Some(Copying::Clover),
-        _ => None,
+    if word == b"stopless".as_slice() {
+        Some(Copying::Stopless)
+    } else if word == b"chicken".as_slice() {
+        Some(Copying::Chicken)
+    } else if word == b"clover".as_slice() {
+        Some(Copying::Clover)
+    } else {
+        None
     }
 }
 
-fn form_of(word: &str) -> Option<Form>
-    ensures { result ≡ grammar.form_of word.now }
-{
-    match word {
-        "run" => Some(Form::Run),
-        "load" => Some(Form::Load),
-        "replay" => Some(Form::Replay),
-        "check" => Some(Form::Check),
-        "make" => Some(Form::Make),
-        _ => None,
-    }
-}
-
-/// The places of a form after its first word.
-fn places_of(form: Form) -> &'static [Place]
-    ensures { result.now ≡ grammar.places_of form }
-{
-    match form {
-        Form::Run => &[Place::Copier, Place::MaybeNumber],
-        Form::Load => &[Place::Copier, Place::Number],
-        Form::Replay => &[Place::Copier, Place::Schedule, Place::Steps],
-        Form::Check => &[],
-        Form::Make => &[Place::Number],
-    }
-}
-
-fn fits(place: Place, word: &str) -> bool
-    ensures { result ≡ grammar.fits place word.now }
-{
-    match place {
-        Place::Copier => copying_of(word).is_some(),
-        Place::Schedule => schedule_of(word).is_some(),
-        Place::Steps => steps_of(word).is_some(),
-        Place::Number | Place::MaybeNumber => seed_of(word).is_some(),
-    }
-}
-
-/// Whether the word of the place may be missing.
-fn is_optional(place: Place) -> bool
-    ensures { result ≡ grammar.is_optional place }
-{
-    matches!(place, Place::MaybeNumber)
-}
-
-/// The index of the first word after the first one that is wrong or missing.
-fn misfit(places: &[Place], later: &[String]) -> Option<u32>
-    requires { length places.now ≤ 3 }
-    ensures { result ≡ grammar.misfit_from 1 places.now (map string_bytes later.now) }
-{
-    let mut index = 1u32;
-    let mut rest = later;
-    for place in places {
-        let Some((word, after)) = rest.split_first() else {
-            return if is_optional(*place) {
-                None
-            } else {
-                Some(index)
-            };
-        };
-        if !fits(*place, word) {
-            return Some(index);
-        }
-        rest = after;
-        index += 1;
-    }
-    if rest.is_empty() { None } else { Some(index) }
-}
-
-/// The index of the first word that is wrong or missing; None where the words are a form.
-fn usage_of(words: &[String]) -> Option<u32>
-    ensures { result ≡ grammar.usage_of (map string_bytes words.now) }
+/// The word at this index, and the words after it; the index where it is missing.
+fn due(index: u32, words: &[Vec<u8>]) -> Result<(&[u8], &[Vec<u8>]), u32>
+    ensures { grammar.Gives (λ x. (x.0.now, grammar.words_of x.1.now)) result (grammar.due index (grammar.words_of words.now)) }
 {
     match words.split_first() {
-        None => Some(0),
-        Some((first, later)) => match form_of(first) {
-            None => Some(0),
-            Some(form) => misfit(places_of(form), later),
-        },
+        None => Err(index),
+        Some((word, later)) => Ok((word, later)),
     }
 }
 
-/// What `replay COPIER SCHEDULE STEPS` asks for; None for other words.
-fn built_replay(words: &[String]) -> Option<Replay>
-    ensures { result ≡ grammar.built_replay (map string_bytes words.now) }
+/// No further word stands; else its index.
+fn ended(index: u32, words: &[Vec<u8>]) -> Result<(), u32>
+    ensures { result ≡ grammar.ended index (grammar.words_of words.now) }
 {
-    match words {
-        [command, copier, schedule, steps] if command.as_str() == "replay" => {
-            Some(Replay {
-                copier: copying_of(copier)?,
-                schedule: schedule_of(schedule)?,
-                steps: steps_of(steps)?,
-            })
-        }
-        _ => None,
+    if words.is_empty() { Ok(()) } else { Err(index) }
+}
+
+/// COPIER SCHEDULE STEPS, after `replay`.
+#[tactic(auto, unfolding(crate::specs::Forms::replay_form))]
+fn replay_form(words: &[Vec<u8>]) -> Result<Replay, u32>
+    ensures { result ≡ grammar.replay_form (grammar.words_of words.now) }
+{
+    let (word, later) = due(1, words)?;
+    let copier = copying_of(word).ok_or(1u32)?;
+    let (word, later) = due(2, later)?;
+    let schedule = schedule_of(word).ok_or(2u32)?;
+    let (word, later) = due(3, later)?;
+    let steps = steps_of(word).ok_or(3u32)?;
+    ended(4, later)?;
+    Ok(Replay {
+        copier,
+        schedule,
+        steps,
+    })
+}
+
+/// A NUMBER at this index, and no further word.
+#[tactic(auto, unfolding(crate::specs::Forms::number_form))]
+fn number_form(index: u32, words: &[Vec<u8>]) -> Result<(), u32>
+    requires { index < 3 }
+    ensures { result ≡ grammar.number_form index (grammar.words_of words.now) }
+{
+    let (word, later) = due(index, words)?;
+    seed_of(word).ok_or(index)?;
+    ended(index + 1, later)
+}
+
+/// Nothing, or a NUMBER at this index and no further word.
+fn maybe_number_form(index: u32, words: &[Vec<u8>]) -> Result<(), u32>
+    requires { index < 3 }
+    ensures { result ≡ grammar.maybe_number_form index (grammar.words_of words.now) }
+{
+    if words.is_empty() {
+        return Ok(());
+    }
+    number_form(index, words)
+}
+
+/// COPIER, after `load` or `run`, and the words after it.
+#[tactic(auto, unfolding(crate::specs::Forms::copier_form))]
+fn copier_form(words: &[Vec<u8>]) -> Result<&[Vec<u8>], u32>
+    ensures { grammar.Gives (λ x. grammar.words_of x.now) result (grammar.copier_form (grammar.words_of words.now)) }
+{
+    let (word, later) = due(1, words)?;
+    copying_of(word).ok_or(1u32)?;
+    Ok(later)
+}
+
+/// What the first word and those after it ask for; else the index of the first word that does not fit.
+#[tactic(auto, unfolding(crate::specs::Forms::form_of))]
+fn form_of(first: &[u8], later: &[Vec<u8>]) -> Result<Asked, u32>
+    ensures { result ≡ grammar.form_of first.now (grammar.words_of later.now) }
+{
+    if first == b"replay".as_slice() {
+        return Ok(Asked::Replay(replay_form(later)?));
+    }
+    if first == b"run".as_slice() {
+        maybe_number_form(2, copier_form(later)?)?;
+    } else if first == b"load".as_slice() {
+        number_form(2, copier_form(later)?)?;
+    } else if first == b"check".as_slice() {
+        ended(1, later)?;
+    } else if first == b"make".as_slice() {
+        number_form(1, later)?;
+    } else {
+        return Err(0);
+    }
+    Ok(Asked::Unbuilt)
+}
+
+/// What the words ask for; else the index of the first word that does not fit, or the number of words where one is
+/// missing.
+fn asked_by(words: &[Vec<u8>]) -> Result<Asked, u32>
+    ensures { result ≡ grammar.asked_by (grammar.words_of words.now) }
+{
+    match words.split_first() {
+        None => Err(0),
+        Some((first, later)) => form_of(first, later),
     }
 }
 
@@ -211,12 +198,13 @@ fn built_replay(words: &[String]) -> Option<Replay>
 /// # Errors
 ///
 /// `Usage` for words that are no form, and `NotBuilt` for every other form.
-pub fn replay_of(words: &[String]) -> Result<Replay, Status>
-    ensures { result ≡ grammar.request_of (map string_bytes words.now) }
+pub fn replay_of(words: &[Vec<u8>]) -> Result<Replay, Status>
+    ensures { result ≡ grammar.request_of (grammar.words_of words.now) }
 {
-    match usage_of(words) {
-        Some(index) => Err(Status::Usage { index }),
-        None => built_replay(words).ok_or(Status::NotBuilt),
+    match asked_by(words) {
+        Ok(Asked::Replay(replay)) => Ok(replay),
+        Ok(Asked::Unbuilt) => Err(Status::NotBuilt),
+        Err(index) => Err(Status::Usage { index }),
     }
 }
 

@@ -1,6 +1,6 @@
 //! A source and a sink in memory, for tests: which calls fail, and how much each moves, is chosen.
 
-ghost use Rattle.std.specs.Prelude.{◌≡◌, ◌<◌, ◌≤◌, ◌↔◌, ◌++◌, [], length, take, drop, Some, IsTrue, IsErr, IfOk, OnErr, MatchResult, Contains};
+ghost use Rattle.std.specs.Prelude.{◌≡◌, ◌<◌, ◌≤◌, ◌↔◌, ◌++◌, [], length, take, drop, Some, IsTrue, IsErr, IfOk, OnOk, OnErr, MatchResult, Contains};
 ghost use Rattle.std.specs.Io.KnownBytes.{ReadConsumes, WriteAppends};
 ghost use Rattle.gc_tool.specs.Outside.{Rose};
 
@@ -74,7 +74,7 @@ impl Source for MemorySource {
         // As at any source.
         ensures fits { IfOk result (λ count. count ≤ length buffer.new) }
         ensures bytes { ReadConsumes (Some self.old.left) (Some self.new.left) result buffer.new }
-        ensures never_falls { self.old.faults ≤ self.new.faults }
+        ensures went_well { OnOk result (self.new.faults ≡ self.old.faults) }
         ensures failed { OnErr result (Rose self.old.faults self.new.faults) }
 
         // Exactly these calls fail, and each other one gives as much as it may.
@@ -172,7 +172,7 @@ impl Sink for MemorySink {
         ensures fits { IfOk result (λ count. count ≤ length piece.now) }
         ensures moves { IfOk result (λ count. 0 < length piece.now → 0 < count) }
         ensures bytes { WriteAppends (Some self.old.held) (Some self.new.held) result piece.now }
-        ensures never_falls { self.old.faults ≤ self.new.faults }
+        ensures went_well { OnOk result (self.new.faults ≡ self.old.faults) }
         ensures failed { OnErr result (Rose self.old.faults self.new.faults) }
 
         // Exactly these calls fail, and each other one takes as much as it may.

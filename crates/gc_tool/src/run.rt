@@ -1,16 +1,16 @@
 //! What the program does.
 
-ghost use Rattle.std.specs.Prelude.{◌≡◌, ◌≢◌, ◌≤◌, ◌<◌, ◌↔◌, ◌⊎◌, ℕ, List, Some, None, Ok, Err, length, map, IfOk, IfErr, IsErrOf, string_bytes};
+ghost use Rattle.std.specs.Prelude.{◌≡◌, ◌≢◌, ◌<◌, ◌↔◌, ◌⊎◌, ℕ, List, Ok, Err, length, IfOk, IfErr, IsErrOf};
 ghost use Rattle.std.specs.Io.KnownBytes.{Appends};
 ghost use Rattle.heap_script.specs.Scripts.{Reading};
 ghost use Rattle.heap_script.specs.declared.fault.FaultKind.{FaultKind};
 ghost use Rattle.gc_cycle.specs.Lawful.{Lawful};
 ghost use Rattle.gc_tool.specs.Outside.{Rose, Gave, AppendsPrefix};
-ghost use Rattle.gc_tool.specs.Forms.{request_of, IsBuilt};
+ghost use Rattle.gc_tool.specs.Forms.{words_of, request_of, IsBuilt};
 ghost use Rattle.gc_tool.specs.Runs.{IsOutput, IsOutputOver, IsStop, IsStopOver, IsCause, ReadsScript, ReadsFault, ReadsUnbuilt, Asks, Spends, IsHonest, Answers, IsTextOf};
 
 use crate::forms::{Copying, Replay, read_built, replay_of};
-use crate::reading::{INPUT_LIMIT, read_all};
+use crate::reading::read_all;
 use crate::sink::Sink;
 use crate::source::Source;
 use crate::status::Status;
@@ -82,8 +82,8 @@ fn output_of<S: Source>(alloc: Global, replay: Replay, source: &mut S) -> Result
     ensures cause { IfErr result (λ status. IsCause replay status (S.left source.old) (S.left source.new)
         (S.faults source.old) (S.faults source.new)) }
     ensures too_long { Gave (S.left source.old) (S.left source.new)
-        (λ given. IsErrOf result Status.TooLong ↔ (INPUT_LIMIT < length given)) }
-    ensures never_falls { S.faults source.old ≤ S.faults source.new }
+        (λ given. IsErrOf result Status.TooLong ↔ (1048576 < length given)) }
+    ensures went_well { (IsErrOf result Status.ReadFault → ⊥) → S.faults source.new ≡ S.faults source.old }
 {
     let bytes = read_all(alloc, source)?;
     let script = read_built(alloc, &bytes)?;
@@ -91,52 +91,52 @@ fn output_of<S: Source>(alloc: Global, replay: Replay, source: &mut S) -> Result
 }
 
 /// Plays `replay COPIER SCHEDULE STEPS` with one of the copiers: reads the source to its end, plays the script
-/// that it spells, and writes the history, the refused tries and the answers, as one piece. The words come first, then
-/// the reading, the script, the play and the writing; `OutOfMemory` has no cause of its own.
+/// that it spells, and writes the history, the refused tries and the answers. The words are the program's own, without its
+/// name. They come first, then the reading, the script, the play and the writing; `OutOfMemory` has no cause of its own.
 pub fn run_plain<S: Source, K: Sink>(
     alloc: Global,
-    words: &[String],
+    words: &[Vec<u8>],
     source: &mut S,
     sink: &mut K,
 ) -> Status
     // The output is written whole, or its first bytes are; else nothing is written.
     ensures done { result ≡ Status.Done
-        → (text : List ℕ) × Asks (map string_bytes words.now) (S.left source.old) (S.left source.new) text
+        → (text : List ℕ) × Asks (words_of words.now) (S.left source.old) (S.left source.new) text
         × Appends (K.holds sink.old) (K.holds sink.new) text }
     ensures write_fault { result ≡ Status.WriteFault
-        → (text : List ℕ) × Asks (map string_bytes words.now) (S.left source.old) (S.left source.new) text
+        → (text : List ℕ) × Asks (words_of words.now) (S.left source.old) (S.left source.new) text
         × AppendsPrefix (K.holds sink.old) (K.holds sink.new) text
         × Rose (K.faults sink.old) (K.faults sink.new) }
     ensures unwritten { result ≢ Status.Done → result ≢ Status.WriteFault → sink.new ≡ sink.old }
 
     // Words that are no form, or a form that is not built, are refused before anything is read.
-    ensures words { (status : Status) → request_of (map string_bytes words.now) ≡ Err status
+    ensures words { (status : Status) → request_of (words_of words.now) ≡ Err status
         → (result ≡ status) × (source.new ≡ source.old) }
     ensures usage { (index : ℕ) → result ≡ Status.Usage index
-        → request_of (map string_bytes words.now) ≡ Err (Status.Usage index) }
+        → request_of (words_of words.now) ≡ Err (Status.Usage index) }
 
     // Why there is no output.
     ensures not_built { result ≡ Status.NotBuilt
-        → (request_of (map string_bytes words.now) ≡ Err Status.NotBuilt)
-        ⊎ ((replay : Replay) × (request_of (map string_bytes words.now) ≡ Ok replay)
+        → (request_of (words_of words.now) ≡ Err Status.NotBuilt)
+        ⊎ ((replay : Replay) × (request_of (words_of words.now) ≡ Ok replay)
         × ReadsUnbuilt (S.left source.old) (S.left source.new)) }
     ensures read_fault { result ≡ Status.ReadFault → Rose (S.faults source.old) (S.faults source.new) }
     ensures too_long { Gave (S.left source.old) (S.left source.new)
-        (λ given. (result ≡ Status.TooLong) ↔ (INPUT_LIMIT < length given)) }
+        (λ given. (result ≡ Status.TooLong) ↔ (1048576 < length given)) }
     ensures script_fault { (line : ℕ) (kind : FaultKind) → result ≡ Status.ScriptFault line kind
         → ReadsFault (S.left source.old) (S.left source.new) (line, kind) }
     ensures steps_spent { (n : ℕ) → result ≡ Status.StepsSpent n
-        → Spends (map string_bytes words.now) (S.left source.old) (S.left source.new) n }
+        → Spends (words_of words.now) (S.left source.old) (S.left source.new) n }
 
-    // Where source and sink do not fail, the status is that of the input, unless memory runs out.
+    // Where reading and writing do not fail, the status is that of the input, unless memory runs out.
     ensures honest { (replay : Replay) (bytes : List ℕ)
-        → IsHonest (map string_bytes words.now) (S.left source.old) replay bytes
-        → ¬ (Rose (S.faults source.old) (S.faults source.new)) → ¬ (Rose (K.faults sink.old) (K.faults sink.new))
+        → IsHonest (words_of words.now) (S.left source.old) replay bytes
+        → result ≢ Status.ReadFault → result ≢ Status.WriteFault
         → Answers bytes replay result ⊎ (result ≡ Status.OutOfMemory) }
 
-    // No count of faults falls.
-    ensures source_faults { S.faults source.old ≤ S.faults source.new }
-    ensures sink_faults { K.faults sink.old ≤ K.faults sink.new }
+    // Where they do not fail, no fault is counted.
+    ensures read_well { result ≢ Status.ReadFault → S.faults source.new ≡ S.faults source.old }
+    ensures wrote_well { result ≢ Status.WriteFault → K.faults sink.new ≡ K.faults sink.old }
 {
     let replay = match replay_of(words) {
         Ok(replay) => replay,

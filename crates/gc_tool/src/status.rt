@@ -1,12 +1,14 @@
 //! How the program ends.
 
 ghost use Rattle.std.specs.Prelude.{◌≡◌};
+ghost use Rattle.std.specs.Process.{exit_status};
 ghost use Rattle.gc_tool.specs.Statuses.{exit_of, kind_text as kind_text_of, text_of};
 
 use arrayvec::ArrayString;
 use call_steps::OutOfMemory;
 use heap_script::FaultKind;
 use itoa::Buffer;
+use std::process::ExitCode;
 
 /// How a call of the program ended. With any other status than `Done` and `WriteFault` nothing was written.
 #[derive(Clone, Copy, Debug, PartialEq, Eq)]
@@ -24,7 +26,7 @@ pub enum Status {
     ScriptFault { line: u32, kind: FaultKind },
     /// The sink failed. A prefix of the output was written.
     WriteFault,
-    /// So many steps were taken, and a party had not ended.
+    /// This number of steps was taken, and a party had not ended.
     StepsSpent { n: u64 },
     /// Memory ran out.
     OutOfMemory,
@@ -42,7 +44,7 @@ impl From<OutOfMemory> for Status {
     }
 }
 
-/// The exit status of the program.
+/// The number of a status, with which the program exits.
 pub fn exit_status(status: &Status) -> u8
     ensures { result ≡ exit_of status.now }
 {
@@ -57,6 +59,13 @@ pub fn exit_status(status: &Status) -> u8
         Status::OutOfMemory => 8,
         Status::NotBuilt => 9,
     }
+}
+
+/// The code with which the program exits.
+pub fn exit_code(status: &Status) -> ExitCode
+    ensures { exit_status result ≡ exit_of status.now }
+{
+    ExitCode::from(exit_status(status))
 }
 
 /// What is wrong with a line.

@@ -1,38 +1,33 @@
-//! The edge of the program: a source and a sink over the readers and writers of std. What passes here is
-//! not told, so nothing but the counts is known of it.
+//! The edge of the program: a source and a sink over the readers and writers of std. What a reader tells of the bytes
+//! that it has left, and a writer of those that it holds, they tell.
 
-ghost use Rattle.std.specs.Prelude.{◌≡◌, ℕ, None};
+ghost use Rattle.std.specs.Prelude.{◌≡◌};
 
 use crate::sink::{Sink, SinkFailed};
 use crate::source::{Source, SourceFailed};
 use std::io::{Read, Write};
-use std::marker::Model;
 
-/// A reader as a source. Contracts see its count of faults.
+/// A reader as a source.
 #[derive(Drop)]
 pub struct InputSource<R> {
     reader: R,
     faults: u64,
 }
 
-impl<R> Model for InputSource<R> {
-    ghost Value = { ℕ };
-
-    ghost view = { λ source. source.faults };
-}
-
 impl<R: Read> InputSource<R> {
+    /// The reader as it is, and no faults.
     pub fn new(reader: R) -> InputSource<R>
-        ensures { result ≡ 0 }
+        ensures reader { result.reader ≡ reader }
+        ensures faults { result.faults ≡ 0 }
     {
         InputSource { reader, faults: 0 }
     }
 }
 
 impl<R: Read> Source for InputSource<R> {
-    ghost left = { λ _. None };
+    ghost left = { λ source. R.remaining source.reader };
 
-    ghost faults = { λ count. count };
+    ghost faults = { λ source. source.faults };
 
     /// One call of the reader. Each error that it gives is a fault.
     fn take(&mut self, buffer: &mut [u8]) -> Result<usize, SourceFailed> {
@@ -46,31 +41,27 @@ impl<R: Read> Source for InputSource<R> {
     }
 }
 
-/// A writer as a sink. Contracts see its count of faults.
+/// A writer as a sink.
 #[derive(Drop)]
 pub struct OutputSink<W> {
     writer: W,
     faults: u64,
 }
 
-impl<W> Model for OutputSink<W> {
-    ghost Value = { ℕ };
-
-    ghost view = { λ sink. sink.faults };
-}
-
 impl<W: Write> OutputSink<W> {
+    /// The writer as it is, and no faults.
     pub fn new(writer: W) -> OutputSink<W>
-        ensures { result ≡ 0 }
+        ensures writer { result.writer ≡ writer }
+        ensures faults { result.faults ≡ 0 }
     {
         OutputSink { writer, faults: 0 }
     }
 }
 
 impl<W: Write> Sink for OutputSink<W> {
-    ghost holds = { λ _. None };
+    ghost holds = { λ sink. W.contents sink.writer };
 
-    ghost faults = { λ count. count };
+    ghost faults = { λ sink. sink.faults };
 
     /// One call of the writer. Each error that it gives is a fault, and so is a write of no byte of a piece
     /// that has some.

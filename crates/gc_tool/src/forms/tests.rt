@@ -2,10 +2,10 @@ use super::*;
 use heap_script::FaultKind;
 use std::test::Fail;
 
-fn words_of(alloc: Global, text: &str) -> Result<Vec<String>, Fail> {
+fn words_of(alloc: Global, text: &str) -> Result<Vec<Vec<u8>>, Fail> {
     let mut words = Vec::new(alloc);
     for word in text.split_whitespace() {
-        words.push(String::from_str(alloc, word)?)?;
+        words.push(word.as_bytes().to_vec(alloc)?)?;
     }
     Ok(words)
 }
@@ -72,6 +72,27 @@ fn tells_forms_from_other_words(rt: HostRuntime) -> Result<(), Fail> {
     ];
     for (words, asked) in cases {
         assert_eq!(rt; replay_of(&words_of(alloc, words)?), asked, "{words}");
+    }
+    Ok(())
+}
+
+// Words that are empty, and words that are no text.
+#[test]
+fn takes_each_word_as_it_is(rt: HostRuntime) -> Result<(), Fail> {
+    let alloc = rt.alloc();
+    let cases = [
+        ([b"".as_slice(), b"solo", b"10"], 0),
+        ([b"\xff", b"solo", b"10"], 0),
+        ([b"replay", b"", b"solo"], 1),
+        ([b"replay", b"stopless", b"\xff"], 2),
+        ([b"run", b"clover", b""], 2),
+    ];
+    for (words, index) in cases {
+        let mut list = Vec::new(alloc);
+        for word in words {
+            list.push(word.to_vec(alloc)?)?;
+        }
+        assert_eq!(rt; replay_of(&list), usage(index));
     }
     Ok(())
 }

@@ -10,10 +10,10 @@ const SESSION: &[u8] =
 const OUTPUT: &[u8] =
     b"entry 1 new #1.1 2 made\nentry 1 put #1.1.0 5 wrote\nentry 1 get #1.1.0 got 5\nanswer 1 1 #1.1\nanswer 1 2 ok\nanswer 1 3 5\nend\n";
 
-fn words_of(alloc: Global, text: &str) -> Result<Vec<String>, Fail> {
+fn words_of(alloc: Global, text: &str) -> Result<Vec<Vec<u8>>, Fail> {
     let mut words = Vec::new(alloc);
     for word in text.split_whitespace() {
-        words.push(String::from_str(alloc, word)?)?;
+        words.push(word.as_bytes().to_vec(alloc)?)?;
     }
     Ok(words)
 }
@@ -166,6 +166,41 @@ fn plays_a_script_beside_a_cycle(rt: HostRuntime) -> Result<(), Fail> {
             let words = format!(in alloc; "replay {copier} {schedule}")?;
             expect_play(&rt, alloc, &words, input, Status::Done, output)?;
         }
+    }
+    Ok(())
+}
+
+// The session, filled up with comment lines to this length.
+fn filled_session(alloc: Global, length: usize) -> Result<Vec<u8>, Fail> {
+    let mut input = SESSION.to_vec(alloc)?;
+    for place in SESSION.len()..length {
+        let is_end = (length - place) % 64 == 1;
+        input.push(if is_end { b'\n' } else { b';' })?;
+    }
+    Ok(input)
+}
+
+#[test]
+fn plays_the_longest_input_and_no_longer_one(rt: HostRuntime) -> Result<(), Fail> {
+    let alloc = rt.alloc();
+    let words = words_of(alloc, "replay stopless solo 20")?;
+    let cases = [
+        (1_048_576, Status::Done, OUTPUT),
+        (1_048_577, Status::TooLong, b""),
+    ];
+    for (length, status, output) in cases {
+        let mut source = MemorySource::new(
+            filled_session(alloc, length)?,
+            100_000,
+            Vec::new(alloc),
+        );
+        let mut sink = sink_of(&rt, alloc, 1000, &[])?;
+        assert_eq!(rt;
+            run_plain(alloc, &words, &mut source, &mut sink),
+            status,
+            "{length}"
+        );
+        assert_eq!(rt; sink.bytes(), output, "{length}");
     }
     Ok(())
 }

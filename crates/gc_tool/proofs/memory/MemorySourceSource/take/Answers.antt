@@ -2,7 +2,7 @@ use Rattle.std.proofs.Common.{◌≡◌, ℕ, ◌+◌, ◌<◌, ◌≤◌, min, 
 use Rattle.std.proofs.lemmas.List.{take_at, drop-drop, take-append-drop, length-take, length-drop, length-append, nil_from_length, take_rest}
 use Rattle.gc_tool.proofs.memory.MemorySourceSource.take.Goals as goal
 
--- the bytes that are copied, and those behind them, were left before
+-- the bytes that are copied, and those after them, were left before
 given_and_left : (bytes copied buffer : List ℕ) (given count : ℕ) → copied ≡ take count (drop given bytes) → count ≤ length (drop given bytes) → drop given bytes ≡ take count (copied ++ buffer) ++ drop (given + count) bytes
 given_and_left bytes copied buffer given count is fits =
     let long : length copied ≡ count = ap length is ∙ (length-take count (drop given bytes) ∙ omega arith) in
