@@ -7,6 +7,3 @@ mod stay;
 
 pub use at_rest::AtRest;
 pub use stay::StayMachine;
-
-#[cfg(test)]
-mod tests;

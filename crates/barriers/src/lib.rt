@@ -35,6 +35,3 @@ pub use spot::Spot;
 pub use value::value_of;
 pub use watched::Watched;
 pub use write::WriteMachine;
-
-#[cfg(test)]
-mod tests;

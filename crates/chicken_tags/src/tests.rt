@@ -139,25 +139,6 @@ fn writes_by_the_header(rt: HostRuntime) -> Result<(), Fail> {
     Ok(())
 }
 
-// Another call turns the header to `Kept`, or the collector to `Forward`, before this one exchanges it.
-#[test]
-fn writes_where_another_was_first(rt: HostRuntime) -> Result<(), Fail> {
-    let layout = Layout::new(1, 1, 2, 16)?;
-    let seven = pack(FieldWord::Num(7));
-    for (header, original, copy) in [(KEPT, 7, 4), (FORWARD, 3, 7)] {
-        let mut words = heap(&rt, rt.alloc(), TAGGED)?;
-        let mut write = Chicken::write(&layout, view(&rt), BIRTH, AT, FIELD, seven);
-        assert_eq!(rt; play(&rt, &mut words, &mut write, 1), 1);
-        put(&rt, &mut words, AT, header);
-        assert_eq!(rt; play(&rt, &mut words, &mut write, 20), 2);
-        assert_eq!(rt; Chicken::write_end(&write), Some(WriteEnd::Wrote));
-        assert_eq!(rt; word(&rt, &words, AT), header);
-        assert_eq!(rt; word(&rt, &words, ORIGINAL), original);
-        assert_eq!(rt; word(&rt, &words, COPY), copy);
-    }
-    Ok(())
-}
-
 // The header before and after, the expected number, the steps, the end, and what the original and the
 // copy hold then.
 #[test]
@@ -183,44 +164,6 @@ fn exchanges_by_the_header(rt: HostRuntime) -> Result<(), Fail> {
         assert_eq!(rt; word(&rt, &words, AT), after);
         assert_eq!(rt; word(&rt, &words, ORIGINAL), original);
         assert_eq!(rt; word(&rt, &words, COPY), copy);
-    }
-    Ok(())
-}
-
-// The field's link changes its address before each of the three exchanges, in the original or in the copy.
-#[test]
-fn an_exchange_is_raced(rt: HostRuntime) -> Result<(), Fail> {
-    let layout = Layout::new(1, 1, 2, 16)?;
-    let seven = pack(FieldWord::Num(7));
-    let here = 0x2000_0000_0010_000f;
-    let there = 0x2000_0000_0010_004f;
-    let link = FieldWord::Link {
-        birth: BIRTH,
-        at: AT,
-    };
-    assert_eq!(rt; pack(link), here);
-    for (header, field, steps) in [
-        (PLAIN, ORIGINAL, 2),
-        (TAGGED, ORIGINAL, 3),
-        (FORWARD, COPY, 2),
-    ] {
-        let mut words = heap(&rt, rt.alloc(), header)?;
-        put(&rt, &mut words, field, here);
-        let mut exchange = Chicken::exchange(&layout, view(&rt), BIRTH, AT, FIELD, link, seven);
-        assert_eq!(rt; play(&rt, &mut words, &mut exchange, steps), steps);
-        for next in [there, here, there] {
-            assert_eq!(rt; Chicken::exchange_end(&exchange), None);
-            put(&rt, &mut words, field, next);
-            assert_eq!(rt; play(&rt, &mut words, &mut exchange, 1), 1);
-        }
-        assert_eq!(rt;
-            Chicken::exchange_end(&exchange),
-            Some(ExchangeEnd::Refused(TryRefusal::Raced {
-                loaded: here,
-                found: there
-            }))
-        );
-        assert_eq!(rt; word(&rt, &words, field), there);
     }
     Ok(())
 }
@@ -259,36 +202,6 @@ fn moves_an_object(rt: HostRuntime) -> Result<(), Fail> {
     assert_eq!(rt; word(&rt, &words, TO), PLAIN);
     for field in 0..8u32 {
         assert_eq!(rt; word(&rt, &words, TO + 1 + field), 20 + u64::from(field));
-    }
-    Ok(())
-}
-
-// A call turns the header to `Kept` after so many steps of the move, from none of its steps to all but the last.
-#[test]
-fn gives_a_copy_up(rt: HostRuntime) -> Result<(), Fail> {
-    let layout = Layout::new(1, 1, 2, 16)?;
-    for before in [0, 1, 9, 17] {
-        let mut words = tagged(&rt, rt.alloc())?;
-        let mut copy = Chicken::move_one(&layout, job(PLAIN), 0);
-        assert_eq!(rt; play(&rt, &mut words, &mut copy, before), before);
-        put(&rt, &mut words, AT, KEPT);
-        assert_eq!(rt; play(&rt, &mut words, &mut copy, 40), 19 - before);
-        let kept = MoveEnd::Kept { header: KEPT };
-        assert_eq!(rt; Chicken::move_end(&copy), Some(kept));
-        assert_eq!(rt; word(&rt, &words, AT), KEPT);
-        assert_eq!(rt; word(&rt, &words, TO), DEAD);
-    }
-    Ok(())
-}
-
-// A job whose header is not that of a `Plain` object takes no step.
-#[test]
-fn moves_nothing_without_a_header(rt: HostRuntime) -> Result<(), Fail> {
-    let layout = Layout::new(1, 1, 2, 16)?;
-    for header in [0, 0x900, TAGGED, FORWARD] {
-        let copy = Chicken::move_one(&layout, job(header), 0);
-        assert_eq!(rt; copy.ask(), Step::Ended);
-        assert_eq!(rt; Chicken::move_end(&copy), Some(MoveEnd::Kept { header }));
     }
     Ok(())
 }

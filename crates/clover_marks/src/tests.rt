@@ -198,93 +198,6 @@ fn exchanges_by_the_header_and_the_mark(rt: HostRuntime) -> Result<(), Fail> {
     Ok(())
 }
 
-// While values may be moving in this cycle a write of the mark is refused by its first step; and an
-// exchange for it, too.
-#[test]
-fn refuses_the_mark_as_a_value(rt: HostRuntime) -> Result<(), Fail> {
-    let layout = Layout::new(1, 1, 2, 16)?;
-    let mark = pack(FieldWord::Num(MARK));
-    let busy = TryRefusal::Busy {
-        cycle: 1,
-        mark: MARK,
-    };
-    let three = FieldWord::Num(3);
-    for (phase, steps) in [
-        (SEARCHING, 1),
-        (COPYING, 1),
-        (FIXING, 1),
-        (FREE, 4),
-        (NEXT_CYCLE, 4),
-    ] {
-        let mut words = heap(&rt, rt.alloc(), PLAIN, 3)?;
-        put(&rt, &mut words, 0, phase);
-        let mut write = Clover::write(&layout, view(&rt, MARK), BIRTH, AT, FIELD, mark);
-        assert_eq!(rt; play(&rt, &mut words, &mut write, 20), steps);
-        let (end, field) = if steps == 1 {
-            (WriteEnd::Refused(busy), 3)
-        } else {
-            (WriteEnd::Wrote, MARK)
-        };
-        assert_eq!(rt; Clover::write_end(&write), Some(end));
-        assert_eq!(rt; word(&rt, &words, ORIGINAL), field);
-    }
-    let mut words = heap(&rt, rt.alloc(), PLAIN, 3)?;
-    let view = view(&rt, MARK);
-    let mut exchange = Clover::exchange(&layout, view, BIRTH, AT, FIELD, three, mark);
-    assert_eq!(rt; play(&rt, &mut words, &mut exchange, 20), 1);
-    assert_eq!(rt;
-        Clover::exchange_end(&exchange),
-        Some(ExchangeEnd::Refused(busy))
-    );
-    Ok(())
-}
-
-// Before each exchange of the original's word another call puts the next of these words there; the third
-// one is lost to the last of them. Where that is the mark, the header is loaded once more.
-#[test]
-fn a_write_is_raced(rt: HostRuntime) -> Result<(), Fail> {
-    let layout = Layout::new(1, 1, 2, 16)?;
-    let seven = pack(FieldWord::Num(7));
-    for (last, steps) in [(9, 0), (MARK, 1)] {
-        let mut words = heap(&rt, rt.alloc(), PLAIN, 3)?;
-        let mut write = Clover::write(&layout, view(&rt, MARK), BIRTH, AT, FIELD, seven);
-        assert_eq!(rt; play(&rt, &mut words, &mut write, 2), 2);
-        for next in [5, 6, last] {
-            assert_eq!(rt; Clover::write_end(&write), None);
-            put(&rt, &mut words, ORIGINAL, next);
-            assert_eq!(rt; play(&rt, &mut words, &mut write, 1), 1);
-        }
-        assert_eq!(rt; play(&rt, &mut words, &mut write, 20), steps);
-        assert_eq!(rt;
-            Clover::write_end(&write),
-            Some(WriteEnd::Refused(TryRefusal::Raced {
-                loaded: 6,
-                found: last
-            }))
-        );
-        assert_eq!(rt; word(&rt, &words, ORIGINAL), last);
-    }
-    Ok(())
-}
-
-// The collector moves the field between the steps of a call: it has loaded 3, and its exchange finds the
-// mark.
-#[test]
-fn a_write_goes_on_in_the_copy(rt: HostRuntime) -> Result<(), Fail> {
-    let layout = Layout::new(1, 1, 2, 16)?;
-    let seven = pack(FieldWord::Num(7));
-    let mut words = heap(&rt, rt.alloc(), PLAIN, 3)?;
-    let mut write = Clover::write(&layout, view(&rt, MARK), BIRTH, AT, FIELD, seven);
-    assert_eq!(rt; play(&rt, &mut words, &mut write, 2), 2);
-    put(&rt, &mut words, AT, MOVING);
-    put(&rt, &mut words, ORIGINAL, MARK);
-    assert_eq!(rt; play(&rt, &mut words, &mut write, 20), 3);
-    assert_eq!(rt; Clover::write_end(&write), Some(WriteEnd::Wrote));
-    assert_eq!(rt; word(&rt, &words, ORIGINAL), MARK);
-    assert_eq!(rt; word(&rt, &words, COPY), 7);
-    Ok(())
-}
-
 // The move of the object, in whose header the walk found this word.
 fn job(header: u64) -> MoveJob {
     MoveJob {
@@ -322,34 +235,6 @@ fn moves_an_object(rt: HostRuntime) -> Result<(), Fail> {
     for field in 0..8u32 {
         assert_eq!(rt; word(&rt, &words, AT + 1 + field), MARK);
         assert_eq!(rt; word(&rt, &words, TO + 1 + field), 20 + u64::from(field));
-    }
-    Ok(())
-}
-
-// A call writes 9 in field 0 between the store of its word in the copy and the exchange for the mark.
-#[test]
-fn a_move_goes_on_with_the_word_found(rt: HostRuntime) -> Result<(), Fail> {
-    let layout = Layout::new(1, 1, 2, 16)?;
-    let mut words = plain(&rt, rt.alloc())?;
-    let mut mover = Clover::move_one(&layout, job(PLAIN), MARK);
-    assert_eq!(rt; play(&rt, &mut words, &mut mover, 4), 4);
-    assert_eq!(rt; word(&rt, &words, TO + 1), 20);
-    put(&rt, &mut words, AT + 1, 9);
-    assert_eq!(rt; play(&rt, &mut words, &mut mover, 40), 25);
-    assert_eq!(rt; Clover::move_end(&mover), Some(MoveEnd::Moved));
-    assert_eq!(rt; word(&rt, &words, AT + 1), MARK);
-    assert_eq!(rt; word(&rt, &words, TO + 1), 9);
-    Ok(())
-}
-
-// A job whose header is not that of a `Plain` object takes no step.
-#[test]
-fn moves_nothing_without_a_header(rt: HostRuntime) -> Result<(), Fail> {
-    let layout = Layout::new(1, 1, 2, 16)?;
-    for header in [0, 0x900, MOVING, FORWARD] {
-        let mover = Clover::move_one(&layout, job(header), MARK);
-        assert_eq!(rt; mover.ask(), Step::Ended);
-        assert_eq!(rt; Clover::move_end(&mover), Some(MoveEnd::Kept { header }));
     }
     Ok(())
 }

@@ -10,6 +10,3 @@ pub use schedule::{Schedule, StepsSpent};
 pub use sequel::{Face, InRegister, Sequel, what_follows};
 pub use stepping::Steps;
 pub use world::{SealedAt, Turn, World};
-
-#[cfg(test)]
-mod collector_tests;

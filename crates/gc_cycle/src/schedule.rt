@@ -85,6 +85,3 @@ fn party_drawn(word: u64, ready: &[u32]) -> u32
     let place = word % ready.len() as u64;
     ready[place as usize]
 }
-
-#[cfg(test)]
-mod tests;

@@ -365,16 +365,3 @@ where
         self.awaited = self.awaited.behind(&before, &self.collector, changes);
     }
 }
-
-#[cfg(test)]
-mod copier_tests;
-#[cfg(test)]
-mod mark_tests;
-#[cfg(test)]
-mod moving_tests;
-#[cfg(test)]
-mod orders;
-#[cfg(test)]
-mod tests;
-#[cfg(test)]
-mod wide_tests;

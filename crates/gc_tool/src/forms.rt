@@ -250,6 +250,3 @@ pub fn read_built(alloc: Global, bytes: &[u8]) -> Result<Script, Status>
         Err(ReadScriptFault::OutOfMemory) => Err(Status::OutOfMemory),
     }
 }
-
-#[cfg(test)]
-mod tests;

@@ -23,25 +23,3 @@ pub fn tell<K: Sink>(sink: &mut K, status: &Status) -> Result<(), Status>
     give_all(sink, status_text(status).as_bytes())?;
     give_all(sink, b"\n")
 }
-
-#[cfg(test)]
-mod tests {
-    use super::*;
-    use crate::memory::MemorySink;
-    use std::test::Fail;
-
-    #[test]
-    fn tells_all_but_done(rt: HostRuntime) -> Result<(), Fail> {
-        let alloc = rt.alloc();
-        let cases = [
-            (Status::Done, b"".as_slice()),
-            (Status::Usage { index: 0 }, b"gc_tool: usage, word 0\n"),
-        ];
-        for (status, line) in cases {
-            let mut sink = MemorySink::new(alloc, 100, 5, Vec::new(alloc))?;
-            assert_eq!(rt; tell(&mut sink, &status), Ok(()));
-            assert_eq!(rt; sink.bytes(), line);
-        }
-        Ok(())
-    }
-}

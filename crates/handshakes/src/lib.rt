@@ -15,6 +15,3 @@ pub use pass_view::PassView;
 pub use phase_word::{Phase, PhaseWord};
 pub use poll::{Poll, PollEnd, PollMachine};
 pub use retire::{Retire, RetireMachine};
-
-#[cfg(test)]
-mod tests;

@@ -250,32 +250,3 @@ fn tells_a_replay(rt: HostRuntime) -> Result<(), Fail> {
     assert_eq!(rt; second, REPORT.as_bytes());
     Ok(())
 }
-
-// No cycle is told, and nothing of what is left.
-#[test]
-fn tells_a_history(rt: HostRuntime) -> Result<(), Fail> {
-    let alloc = rt.alloc();
-    let history = [Entry {
-        call: Call::NewObject {
-            pass: 2,
-            birth: 1_048_577,
-            len: 3,
-        },
-        reply: Reply::Made,
-    }];
-    let agains = [Again {
-        thread: 2,
-        number: 1,
-        raced: 3,
-        busy: 0,
-    }];
-    let mut lists = Vec::new(alloc);
-    lists.push([Answer::NotLink, Answer::Ok].to_vec(alloc)?)?;
-    lists.push([Answer::Made(1_048_577)].to_vec(alloc)?)?;
-    let text = history_report(alloc, &history, &agains, &Answers { lists })?;
-    assert_eq!(rt;
-        text.as_slice(),
-        b"entry 2 new #2.1 3 made\nagain 2 1 raced 3 busy 0\nanswer 1 1 nolink\nanswer 1 2 ok\nanswer 2 1 #2.1\nend\n".as_slice()
-    );
-    Ok(())
-}

@@ -41,6 +41,3 @@ pub use reading::read_script;
 pub use script::{Command, Line, Script};
 pub use told::{Again, Refusal, Told};
 pub use words::number;
-
-#[cfg(test)]
-mod tests;

@@ -190,6 +190,3 @@ impl Told {
         }
     }
 }
-
-#[cfg(test)]
-mod tests;

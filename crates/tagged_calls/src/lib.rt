@@ -7,6 +7,3 @@ mod placed;
 
 pub use location::{Keep, Location};
 pub use placed::{Placed, exchange_in, read_in, write_in};
-
-#[cfg(test)]
-mod tests;
