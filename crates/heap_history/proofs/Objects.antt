@@ -1,13 +1,14 @@
 -- A map of vectors, seen as a map of the lists that they hold.
-use Rattle.std.proofs.Common.{◌≡◌, ℕ, ◌<◌, List, [], ◌∷◌, Bool, true, false, cond, Vec, Option, Some, None, is_some, IsSome, slice_get, length, refl, sym, ap, ◌∙◌, inl, inr, ◌&&◌, not, if◌then◌else◌}
+use Rattle.std.proofs.Common.{◌≡◌, ◌≢◌, ℕ, ◌+◌, ◌*◌, ◌<◌, ◌≤◌, ◌==◌, arith, List, [], ◌∷◌, Bool, true, false, cond, Vec, Option, Some, None, is_some, IsSome, slice_get, length, refl, sym, ap, ◌∙◌, inl, inr, ◌&&◌, not, if◌then◌else◌}
 use Rattle.std.specs.declared.cmp.Ordering.{Ordering}
 use Rattle.std.specs.declared.cmp.Ordering.TheVariants.{Less, Equal, Greater}
-use Rattle.std.specs.Ordering.{nat_cmp, match_ordering}
+use Rattle.std.specs.Prelude.{nat_lt}
+use Rattle.std.specs.Ordering.{nat_cmp, match_ordering, is_eq}
 use Rattle.std.specs.Option.{option_map}
 use Rattle.std.specs.Vec.{with_item}
 use Rattle.std.specs.Map.{lookup, set_value}
 use Rattle.std.specs.BTreeMap.{is_at, insert_entry}
-use Rattle.std.proofs.lemmas.Bool.{false≢true}
+use Rattle.std.proofs.lemmas.Bool.{false≢true, true≢false, ne_eqb, le-ltb, leb-true, and_parts}
 use Rattle.std.proofs.lemmas.Option.{slice_get_cases}
 use Rattle.heap_history.specs.declared.call.Value.{Value}
 use Rattle.heap_history.specs.declared.call.Call.TheVariants.{NewObject}
@@ -82,3 +83,40 @@ pub written : {A : Type 0} → (es : List (ℕ × Vec Value A)) (object field : 
 written es object field value v there =
     let found : fields_of (objects_of es) object ≡ Some v.items = lookup-objects_of (is_at (nat_cmp object)) es ∙ ap (λ o. option_map (λ w. w.items) o) there in
     objects_of-set (is_at (nat_cmp object)) es (with_item v field value) ∙ ap (λ o. set_value (is_at (nat_cmp object)) (objects_of es) (with_field o field value)) (sym found)
+
+-- ---- the common object, which stands before all others
+
+other_test : (less same : Bool) → same ≡ false → is_eq (cond less Less (cond same Equal Greater)) ≡ false
+other_test true same e = refl
+other_test false false e = refl
+other_test false true e = absurd cc
+
+-- another birth number is not that of the common object
+is_other : (birth : ℕ) → birth ≢ 1 → is_at (nat_cmp birth) 1 ≡ false
+is_other birth other = other_test (nat_lt birth 1) (birth == 1) (ne_eqb birth 1 other)
+
+-- and is greater
+is_greater : (birth : ℕ) → birth ≢ 1 → 1 ≤ birth → nat_cmp birth 1 ≡ Greater
+is_greater birth other least = rw (le-ltb birth 1 least, ne_eqb birth 1 other) refl
+
+module _ (common : List Value) (rest : Heap) where
+  pub common_fields : (birth : ℕ) → birth ≡ 1 → fields_of ((1, common) ∷ rest) birth ≡ Some common
+  common_fields birth is = rw is refl
+
+  pub other_fields : (birth : ℕ) → birth ≢ 1 → fields_of ((1, common) ∷ rest) birth ≡ fields_of rest birth
+  other_fields birth other = ap (λ same. cond same (Some common) (fields_of rest birth)) (is_other birth other)
+
+  pub insert_other : (birth : ℕ) (values : List Value) → birth ≢ 1 → 1 ≤ birth → insert_entry nat_cmp ((1, common) ∷ rest) birth values ≡ (1, common) ∷ insert_entry nat_cmp rest birth values
+  insert_other birth values other least = ap (λ o. match_ordering o ((birth, values) ∷ (1, common) ∷ rest) ((1, values) ∷ rest) ((1, common) ∷ insert_entry nat_cmp rest birth values)) (is_greater birth other least)
+
+  pub write_other : (object field : ℕ) (value : Value) → object ≢ 1 → write_in ((1, common) ∷ rest) object field value ≡ (1, common) ∷ write_in rest object field value
+  write_other object field value other =
+      ap (λ same. cond same ((1, with_field (fields_of ((1, common) ∷ rest) object) field value) ∷ rest) ((1, common) ∷ set_value (is_at (nat_cmp object)) rest (with_field (fields_of ((1, common) ∷ rest) object) field value))) (is_other object other)
+      ∙ ap (λ fields. (1, common) ∷ set_value (is_at (nat_cmp object)) rest (with_field fields field value)) (other_fields object other)
+
+-- a birth number that can be made is another one than the common object's
+pub new_is_other : (common : List Value) (rest : Heap) (pass birth : ℕ) → (is_birth_of pass birth && not (is_some (fields_of ((1, common) ∷ rest) birth))) ≡ true → (birth ≢ 1) × (1 ≤ birth)
+new_is_other common rest pass birth fits =
+    let parts = and_parts (is_birth_of pass birth) _ fits in
+    let least : pass * 524288 + 1 ≤ birth = leb-true _ birth (and_parts _ _ parts.0).0 in
+    (λ is. absurd (true≢false (sym parts.1 ∙ ap (λ fields. not (is_some fields)) (common_fields common rest birth is))), omega (arith, least))

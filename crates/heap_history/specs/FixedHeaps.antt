@@ -75,11 +75,6 @@ abbrev pub compared : Value → Option Value → Reply
 compared expected None = NotThere
 compared expected (Some value) = if is_same value expected then Done else Differs value
 
--- a call that takes memory
-abbrev pub is_new_object : Call → Bool
-is_new_object (NewObject pass birth len) = true
-is_new_object _ = false
-
 -- The heap's answer to a call.
 abbrev pub answer : Heap → Call → Reply
 answer heap (NewObject pass birth len) = if is_birth_of pass birth && not (is_some (fields_of heap birth)) then Made else NotThere

@@ -41,7 +41,7 @@ fn first_bad(alloc: Global, entries: &[Entry]) -> Result<(), CheckFault>
     ensures ok { OnOk result (IsAccepted opening entries.now) }
     ensures bad { IfErr result (Says entries.now) }
 {
-    let mut heap = FixedHeap::opening(alloc)?;
+    let mut heap = FixedHeap::opening(alloc);
     for (index, entry) in entries.iter().enumerate() {
         let wanted = heap.apply(entry.call)?;
         if wanted != entry.reply || wanted == Reply::NotThere {
@@ -61,8 +61,8 @@ fn first_bad(alloc: Global, entries: &[Entry]) -> Result<(), CheckFault>
 ///
 /// # Errors
 ///
-/// `BadEntry` is the first entry for which it does not. `OutOfMemory` may come at the opening and at any new
-/// object.
+/// `BadEntry` is the first entry for which it does not. `OutOfMemory` comes only where an entry stands after accepted
+/// ones, and the heap makes an object for it.
 pub fn check_history(alloc: Global, entries: &[Entry]) -> Result<(), CheckFault>
     requires { length entries.now < 2 ^ 31 }
     ensures ok { OnOk result (IsAccepted opening entries.now) }

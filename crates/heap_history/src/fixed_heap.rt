@@ -1,7 +1,8 @@
 //! The fixed heap.
 
-ghost use Rattle.std.specs.Prelude.{◌≡◌, ℕ, IsTrue, IsSome, IfOk, OnOk, OnErr};
-ghost use Rattle.heap_history.specs.FixedHeaps.{opening, is_birth_of, is_there, value_in, write_in, answer, after, is_new_object};
+ghost use Rattle.std.specs.Prelude.{◌≡◌, ℕ, None, Some, IsSome, IfOk, OnOk, OnErr, MatchOption, is_some};
+ghost use Rattle.heap_history.specs.declared.call.Reply.TheVariants.{Made};
+ghost use Rattle.heap_history.specs.FixedHeaps.{opening, fields_of, is_birth_of, is_there, value_in, write_in, answer, after};
 
 use crate::call::{Call, Reply, Value};
 use heap_words::{BIRTHS_BETWEEN_PASSES, BIRTHS_OF_PASS, COMMON_BIRTH, COMMON_LEN};
@@ -17,15 +18,18 @@ pub type OutOfMemory = AllocError;
 #[derive(Debug, Drop)]
 pub struct FixedHeap {
     alloc: Global,
-    objects: BTreeMap<u32, Vec<Value>>,
+    common: [Value; COMMON_LEN as usize],
+    made: BTreeMap<u32, Vec<Value>>,
 }
 
 impl Model for FixedHeap {
+    ghost use Rattle.std.specs.Prelude.{◌∷◌};
+    ghost use Rattle.heap_words.specs.declared.limits.TheConstants.{COMMON_BIRTH};
     ghost use Rattle.heap_history.specs.FixedHeaps.{Heap, objects_of};
 
     ghost Value = { Heap };
 
-    ghost view = { λ heap. objects_of heap.objects.entries };
+    ghost view = { λ heap. (COMMON_BIRTH, heap.common) ∷ objects_of heap.made.entries };
 }
 
 /// Whether a birth number is one of the pass.
@@ -38,21 +42,36 @@ fn is_birth_of(pass: u32, birth: u32) -> bool
 
 impl FixedHeap {
     /// A heap with the one object that is there from the start: birth number 1, and eight fields of 0.
-    /// The heap takes its memory from `alloc`, now and later.
-    pub fn opening(alloc: Global) -> Result<FixedHeap, OutOfMemory>
-        ensures { IfOk result (λ heap. heap ≡ opening) }
+    /// That takes no memory; later objects take it from `alloc`.
+    pub fn opening(alloc: Global) -> FixedHeap
+        ensures { result ≡ opening }
     {
-        let mut objects = BTreeMap::new(alloc);
-        let fields = vec![in alloc; Value::Num(0); COMMON_LEN as usize]?;
-        objects.insert(COMMON_BIRTH, fields)?;
-        Ok(FixedHeap { alloc, objects })
+        FixedHeap {
+            alloc,
+            common: [Value::Num(0); COMMON_LEN as usize],
+            made: BTreeMap::new(alloc),
+        }
+    }
+
+    /// The fields of an object, or `None` where it is not there.
+    fn fields(&self, object: u32) -> Option<&[Value]>
+        ensures { MatchOption result (fields_of self.now object ≡ None)
+            (λ values. fields_of self.now object ≡ Some values.now) }
+    {
+        if object == COMMON_BIRTH {
+            return Some(&self.common);
+        }
+        match self.made.get(&object) {
+            None => None,
+            Some(values) => Some(values),
+        }
     }
 
     /// The value of a field, or `None` where the object or the field is not there. Takes no memory.
     pub fn look(&self, object: u32, field: u32) -> Option<Value>
         ensures { result ≡ value_in self.now object field }
     {
-        self.objects.get(&object)?.get(field as usize).copied()
+        self.fields(object)?.get(field as usize).copied()
     }
 
     /// Answers a call, and does what it asks.
@@ -64,11 +83,11 @@ impl FixedHeap {
     ///
     /// # Errors
     ///
-    /// `OutOfMemory` comes only for a new object, and leaves the heap unchanged.
+    /// `OutOfMemory` comes only for a call that would be answered `Made`, and leaves the heap unchanged.
     pub fn apply(&mut self, call: Call) -> Result<Reply, OutOfMemory>
         ensures reply { IfOk result (λ reply. reply ≡ answer self.old call) }
         ensures heap { OnOk result (self.new ≡ after self.old call) }
-        ensures memory { OnErr result (IsTrue (is_new_object call)) }
+        ensures memory { OnErr result (answer self.old call ≡ Made) }
         ensures err { OnErr result (self.new ≡ self.old) }
     {
         match call {
@@ -97,14 +116,22 @@ impl FixedHeap {
     fn make(&mut self, pass: u32, birth: u32, len: u32) -> Result<Reply, OutOfMemory>
         ensures reply { IfOk result (λ reply. reply ≡ answer self.old (Call.NewObject pass birth len)) }
         ensures heap { OnOk result (self.new ≡ after self.old (Call.NewObject pass birth len)) }
+        ensures memory { OnErr result (answer self.old (Call.NewObject pass birth len) ≡ Made) }
         ensures err { OnErr result (self.new ≡ self.old) }
     {
-        if !is_birth_of(pass, birth) || self.objects.contains_key(&birth) {
+        if !is_birth_of(pass, birth) || self.has(birth) {
             return Ok(Reply::NotThere);
         }
         let zeros = vec![in self.alloc; Value::Num(0); len as usize]?;
-        self.objects.insert(birth, zeros)?;
+        self.made.insert(birth, zeros)?;
         Ok(Reply::Made)
+    }
+
+    /// Whether an object is there.
+    fn has(&self, birth: u32) -> bool
+        ensures { result ≡ is_some (fields_of self.now birth) }
+    {
+        birth == COMMON_BIRTH || self.made.contains_key(&birth)
     }
 
     /// Whether what a value names is there.
@@ -113,7 +140,7 @@ impl FixedHeap {
     {
         match value {
             Value::Num(_) => true,
-            Value::Object(birth) => self.objects.contains_key(&birth),
+            Value::Object(birth) => self.has(birth),
         }
     }
 
@@ -122,7 +149,9 @@ impl FixedHeap {
         requires { IsSome (value_in self.old object field) }
         ensures { self.new ≡ write_in self.old object field value }
     {
-        if let Some(values) = self.objects.get_mut(&object) {
+        if object == COMMON_BIRTH {
+            self.common[field as usize] = value;
+        } else if let Some(values) = self.made.get_mut(&object) {
             values[field as usize] = value;
         }
     }

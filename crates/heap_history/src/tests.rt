@@ -49,7 +49,7 @@ fn exchange(field: u32, expected: Value, value: Value) -> Call {
 
 #[test]
 fn a_session(rt: HostRuntime) -> Result<(), Fail> {
-    let mut heap = FixedHeap::opening(rt.alloc())?;
+    let mut heap = FixedHeap::opening(rt.alloc());
     for (call, reply) in [
         (read(OPENING, 7), Reply::Got(Value::Num(0))),
         (new(FIRST, 2), Reply::Made),
@@ -80,7 +80,7 @@ fn a_session(rt: HostRuntime) -> Result<(), Fail> {
 
 #[test]
 fn what_is_not_there(rt: HostRuntime) -> Result<(), Fail> {
-    let mut heap = FixedHeap::opening(rt.alloc())?;
+    let mut heap = FixedHeap::opening(rt.alloc());
     assert_eq!(rt; heap.apply(new(FIRST, 2))?, Reply::Made);
     for call in [
         read(MISSING, 0),
