@@ -32,12 +32,6 @@ changes_of-look log e look = changes_of-append log e ∙ ap (λ change. changes_
 pub changes_of-change : (log : List Ended) (e : Ended) → is_change e.reply ≡ true → changes_of (log ++ e ∷ []) ≡ changes_of log ++ e.call ∷ []
 changes_of-change log e change = changes_of-append log e ∙ ap (λ b. changes_of log ++ (if b then e.call ∷ [] else [])) change
 
-pub heap_of-look : (log : List Ended) (e : Ended) → is_change e.reply ≡ false → heap_of (log ++ e ∷ []) ≡ heap_of log
-heap_of-look log e look = ap (λ cs. heap_after opening cs) (changes_of-look log e look)
-
-pub heap_of-change : (log : List Ended) (e : Ended) → is_change e.reply ≡ true → heap_of (log ++ e ∷ []) ≡ after (heap_of log) e.call
-heap_of-change log e change = ap (λ cs. heap_after opening cs) (changes_of-change log e change) ∙ heap_after-append opening (changes_of log) (e.call ∷ [])
-
 pub length-look : (log : List Ended) (e : Ended) → is_change e.reply ≡ false → length (changes_of (log ++ e ∷ [])) ≡ length (changes_of log)
 length-look log e look = ap length (changes_of-look log e look)
 
@@ -143,17 +137,6 @@ IsLog-change log e heard change front told =
       counted = subst (AreCounted 0) (sym more) (counted_push 0 (changes_in log) e heard.counted (omega (arith, length-changes_in log)));
       answered = subst P (sym (changes_of-change log e change)) (All-append (HasReply later) log (e ∷ []) before (All-cons (HasReply later) e [] here (All-nil (HasReply later))));
     }
-
--- a call that the heap as it is answers
-next_step : (log : List Ended) (e : Ended) (test : Bool) → is_change e.reply ≡ test → IsLog log → IsNextCall log e → IsLog (log ++ e ∷ [])
-next_step log e true is heard next = IsLog-change log e heard is (next.front ∙ ap (λ b. if b then length (changes_of log) + 1 else length (changes_of log)) is) next.reply
-next_step log e false is heard next =
-    let front : e.front ≡ length (changes_of log) = next.front ∙ ap (λ b. if b then length (changes_of log) + 1 else length (changes_of log)) is in
-    let heap : heap_at (changes_of log) e.front ≡ heap_of log = ap (heap_at (changes_of log)) front ∙ heap_at-length (changes_of log) in
-    IsLog-look log e heard is (omega (arith, front)) (ap (λ heap. answer heap e.call) heap ∙ next.reply) next.there
-
-pub IsLog-next : (log : List Ended) (e : Ended) → IsLog log → IsNextCall log e → IsLog (log ++ e ∷ [])
-IsLog-next log e heard next = next_step log e (is_change e.reply) refl heard next
 
 pub next_change : (log : List Ended) (call : Call) (reply : Reply) → is_change reply ≡ true → answer (heap_of log) call ≡ reply → reply ≢ NotThere → IsNextCall log (record { call = call; reply = reply; front = length (changes_of log) + 1 })
 next_change log call reply change told there = record { front = sym (ap (λ b. if b then length (changes_of log) + 1 else length (changes_of log)) change); reply = told; there = there }

@@ -27,23 +27,11 @@ Before-nil (c ∷ h) = inr (Before-nil h)
 pub Before-cons : (early : List Call) (c : Call) (h : List Call) → Before early h → Before early (c ∷ h)
 Before-cons early c h before = inr before
 
--- more changes
-pub Before-append : (newer h : List Call) → Before h (newer ++ h)
-Before-append [] h = Before-refl h
-Before-append (c ∷ newer) h = inr (Before-append newer h)
-
 -- an earlier one has the late one's first changes
 pub newer_of : (early late : List Call) → Before early late → (newer : List Call) × (late ≡ newer ++ early)
 newer_of early [] before = ([], sym before)
 newer_of early (c ∷ h) (inl same) = ([], sym same)
 newer_of early (c ∷ h) (inr before) = let more = newer_of early h before in (c ∷ more.0, ap (λ h. c ∷ h) more.1)
-
-pub Before-trans : (a b c : List Call) → Before a b → Before b c → Before a c
-Before-trans a b c first second =
-    let middle = newer_of a b first in
-    let last = newer_of b c second in
-    let all : c ≡ (last.0 ++ middle.0) ++ a = last.1 ∙ ap (λ h. last.0 ++ h) middle.1 ∙ sym (append_assoc last.0 middle.0 a) in
-    subst (Before a) (sym all) (Before-append (last.0 ++ middle.0) a)
 
 pub Before-length : (early late : List Call) → Before early late → length early ≤ length late
 Before-length early late before =
@@ -56,17 +44,6 @@ Before-whole early [] before long = before
 Before-whole early (c ∷ h) (inl same) long = same
 Before-whole early (c ∷ h) (inr before) long = absurd (omega (arith, Before-length early h before, long))
 
--- of two before one, one is before the other
-pub Before-compare : (a b late : List Call) → Before a late → Before b late → length a ≤ length b → Before a b
-Before-compare a b [] first second short = subst (Before a) (sym second) first
-Before-compare a b (c ∷ h) first (inl same) short = subst (Before a) (sym same) first
-Before-compare a b (c ∷ h) (inl same) (inr before) short = absurd (omega (arith, ap length same, Before-length b h before, short))
-Before-compare a b (c ∷ h) (inr first) (inr second) short = Before-compare a b h first second short
-
--- and two of one length are the same
-pub Before-unique : (a b late : List Call) → Before a late → Before b late → length a ≡ length b → a ≡ b
-Before-unique a b late first second same = Before-whole a b (Before-compare a b late first second (omega (arith, same))) (omega (arith, same))
-
 -- ---- the longest of some
 
 is_longer : (a b : List Call) (test : Bool) → nat_le (length b) (length a) ≡ test → (length a ≤ length (cond test a b)) × (length b ≤ length (cond test a b))
@@ -78,12 +55,6 @@ longer_left a b = (is_longer a b (nat_le (length b) (length a)) refl).0
 
 pub longer_right : (a b : List Call) → length b ≤ length (longer a b)
 longer_right a b = (is_longer a b (nat_le (length b) (length a)) refl).1
-
-pub longer_first : (a b : List Call) → length b ≤ length a → longer a b ≡ a
-longer_first a b short = let test : nat_le (length b) (length a) ≡ true = grind (arith, nat_tests) in ap (λ t. cond t a b) test
-
-pub longer_second : (a b : List Call) → length a < length b → longer a b ≡ b
-longer_second a b short = let test : nat_le (length b) (length a) ≡ false = grind (arith, nat_tests) in ap (λ t. cond t a b) test
 
 -- what holds of both holds of the longer
 longer_holds : (P : List Call → Type 0) (a b : List Call) (test : Bool) → P a → P b → P (cond test a b)
@@ -109,15 +80,6 @@ longest_before (h ∷ hs) late all =
 -- and where that one is among them, it is the longest
 pub longest_is : (hs : List (List Call)) (late : List Call) → All (λ h. Before h late) hs → Contains hs late → longest hs ≡ late
 longest_is hs late all among = Before-whole (longest hs) late (longest_before hs late all) (longest_long hs late among)
-
--- the longest is one of them
-one_more : (h : List Call) (hs : List (List Call)) (test : Bool) → Contains hs (longest hs) → Contains (h ∷ hs) (cond test h (longest hs))
-one_more h hs true among = (0, omega arith, refl)
-one_more h hs false among = (suc among.0, omega (arith, among.1), among.2)
-
-pub longest_among : (h : List Call) (hs : List (List Call)) → Contains (h ∷ hs) (longest (h ∷ hs))
-longest_among h [] = (0, omega arith, sym (longer_first h [] (omega arith)))
-longest_among h (x ∷ xs) = one_more h (x ∷ xs) (nat_le (length (longest (x ∷ xs))) (length h)) (longest_among x xs)
 
 -- ---- the same changes in order of time
 
@@ -156,12 +118,6 @@ before-reverse early history before =
     sym (reverse-reverse early)
     ∙ ap reverse (reverse-before early (reverse history) before)
     ∙ ap (λ cs. reverse (take (length early) cs)) (reverse-reverse history)
-
--- and the first changes are an earlier history
-pub Before-take : (n : ℕ) (history : List Call) → Before (reverse (take n history)) (reverse history)
-Before-take n history =
-    let all : reverse history ≡ reverse (drop n history) ++ reverse (take n history) = ap reverse (sym (take-append-drop n history)) ∙ reverse-append (take n history) (drop n history) in
-    subst (Before (reverse (take n history))) (sym all) (Before-append (reverse (drop n history)) (reverse (take n history)))
 
 -- So the heap after an earlier history is the heap after as many changes in order of time.
 pub heap_of_history-before : (early history : List Call) → Before early (reverse history) → heap_of_history early ≡ heap_at history (length early)

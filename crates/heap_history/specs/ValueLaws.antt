@@ -19,22 +19,10 @@ use Rattle.heap_history.specs.NewestFirst.{heap_of_history, Before, value_at, le
 
 -- ---- values
 
--- a call that is no change leaves all
-pub value_at-look : (h : List Call) (call : Call) (reply : Reply) (object field : ℕ) → answer (heap_of_history h) call ≡ reply → is_change reply ≡ false → value_at (call ∷ h) object field ≡ value_at h object field
-value_at-look h call reply object field said look = ap (λ heap. unwrap_or (value_in heap object field) (Num 0)) (after-look (heap_of_history h) call reply said look)
-
 zero_or : (len field : ℕ) → unwrap_or (slice_get (zeros len) field) (Num 0) ≡ Num 0
 zero_or zero field = refl
 zero_or (suc len) zero = refl
 zero_or (suc len) (suc field) = zero_or len field
-
-opening_value : (found : Bool) (field : ℕ) → unwrap_or (field_in (cond found (Some (zeros 8)) None) field) (Num 0) ≡ Num 0
-opening_value true field = zero_or 8 field
-opening_value false field = refl
-
--- at the start each is 0
-pub value_at-opening : (object field : ℕ) → value_at [] object field ≡ Num 0
-value_at-opening object field = opening_value (is_at (nat_cmp object) 1) field
 
 -- The fields of a new object are 0, as they were where it was not there. So it leaves all.
 pub value_at-new : (h : List Call) (pass birth len object field : ℕ) → answer (heap_of_history h) (NewObject pass birth len) ≡ Made → value_at (NewObject pass birth len ∷ h) object field ≡ value_at h object field
@@ -151,19 +139,6 @@ there_in (Some values) len field had below = by_place values field (let same : l
 -- a field of an object that is there has its value
 pub value_at-there : (h : List Call) (object field len : ℕ) → len_at h object ≡ Some len → field < len → value_in (heap_of_history h) object field ≡ Some (value_at h object field)
 value_at-there h object field len had below = there_in (fields_of (heap_of_history h) object) len field had below
-
-past_in : (found : Option (List Value)) (len field : ℕ) → option_map length found ≡ Some len → len ≤ field → field_in found field ≡ None
-past_in None len field had past = refl
-past_in (Some values) len field had past = by_place values field (let same : length values ≡ len = cc in omega arith)
-  where
-    by_place : (values : List Value) (field : ℕ) → length values ≤ field → slice_get values field ≡ None
-    by_place [] field past = refl
-    by_place (v ∷ values) zero past = absurd (omega arith)
-    by_place (v ∷ values) (suc field) past = by_place values field (omega arith)
-
--- and there is none past its length
-pub value_at-past : (h : List Call) (object field len : ℕ) → len_at h object ≡ Some len → len ≤ field → value_in (heap_of_history h) object field ≡ None
-value_at-past h object field len had past = past_in (fields_of (heap_of_history h) object) len field had past
 
 -- what a field holds is there
 pub history_closed : (h : List Call) → IsClosed (heap_of_history h)
