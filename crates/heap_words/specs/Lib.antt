@@ -1,7 +1,8 @@
-pub mod FieldWords
 pub mod FieldWordLaws
-pub mod Layouts
+pub mod FieldWords
 pub mod LayoutFaults
-pub mod Places
-pub mod PlaceLaws
+pub mod Layouts
+pub mod Limits
 pub mod Packing
+pub mod PlaceLaws
+pub mod Places

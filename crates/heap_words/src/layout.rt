@@ -57,6 +57,7 @@ impl Layout {
     ghost use Rattle.heap_words.specs.Layouts.{phase_at, mark_at, greys_at, ack_at, root_at, region_at, first_word, wide_at};
     ghost use Rattle.heap_words.specs.LayoutFaults.{first_fault};
     ghost use Rattle.heap_words.specs.declared.limits.TheConstants.{REGISTERS};
+    ghost use Rattle.heap_words.specs.Limits.{AreLimits};
     ghost use Rattle.heap_words.specs.Places.{HasPlacesApart};
 
     /// The layout of these numbers, or the first of them that is out of its range.
@@ -66,6 +67,9 @@ impl Layout {
         ensures within { IsOk result ↔ IsLayout (record { passes = passes; quota = quota; pool = pool; wide = wide }) }
         // No two areas overlap, and all lie within the table.
         ensures areas { IfOk result HasPlacesApart }
+
+        // The limits are the numbers of the format.
+        ensures limits { AreLimits }
     {
         if passes < 1 || passes > MOST_PASSES {
             return Err(LayoutFault::Passes);
