@@ -39,7 +39,7 @@ module _ (words : List ℕ) (end : ℕ) where
       let on : is_over words end at ≡ false = on_at at below some in
       rw on (ap (λ (rest : List Found). found_at words at ∷ rest) (enough_from n (end - behind words at) (behind words at) (omega arith) (omega arith)))
 
-  -- the object at an address, and then those behind it
+  -- the object at an address, and then those after it
   pub more_from : (at : ℕ) → at < end → slice_index words at ≢ 0 → objects_from words end (end - at) at ≡ found_at words at ∷ objects_from words end (end - behind words at) (behind words at)
   more_from at below some =
       let left : end - at ≡ suc (end - at - 1) = omega arith in

@@ -15,7 +15,7 @@ use Rattle.barriers.specs.Values.{value_of}
 abbrev pub value_at : List ℕ → ℕ → Value
 value_at words at = value_of (field_at (slice_index words at))
 
--- the values of so many words from an address on
+-- the values of a number of words from an address on
 abbrev pub values_at : List ℕ → ℕ → ℕ → List Value
 values_at words at n = map (λ i. value_at words (at + i)) (range_with_len 0 n)
 
@@ -32,7 +32,7 @@ pub record Found : Type 0 where
 abbrev pub found_at : List ℕ → ℕ → Found
 found_at words at = record { at = at; header = header_at (slice_index words at) }
 
--- the address behind it
+-- the address after it
 abbrev pub behind : List ℕ → ℕ → ℕ
 behind words at = at + (header_at (slice_index words at)).len + 1
 
@@ -40,7 +40,7 @@ behind words at = at + (header_at (slice_index words at)).len + 1
 abbrev pub is_over : List ℕ → ℕ → ℕ → Bool
 is_over words end at = nat_le end at || slice_index words at == 0
 
--- the objects of a region that stand one after another from an address on, at most so many
+-- the objects of a region that stand one after another from an address on, at most a number of them
 unfoldable pub objects_from : List ℕ → ℕ → ℕ → ℕ → List Found
 objects_from words end zero at = []
 objects_from words end (suc n) at =
@@ -62,7 +62,7 @@ pub record Line : Type 0 where
   pub at : ℕ
   pub fields : List Value
 
--- its fields have the values of the words behind its header
+-- its fields have the values of the words after its header
 abbrev pub line_at : List ℕ → Found → Line
 line_at words f = record { birth = f.header.birth; at = f.at; fields = values_at words (f.at + 1) f.header.len }
 

@@ -51,7 +51,7 @@ pub fn value_at(words: &PlainWords, at: u32) -> Value
     value_of(held_by(word_at(words, at)))
 }
 
-/// The values of so many words from an address on.
+/// The values of `count` words from an address on.
 fn values_at(
     alloc: Global,
     words: &PlainWords,

@@ -64,7 +64,7 @@ IsHistory heap (c ∷ cs) = IsTrue (is_change (answer heap c)) × IsHistory (aft
 abbrev pub made_by : ℕ → List Call → List Call
 made_by pass history = filter (λ c. pass_of c == pass) history
 
--- what stands behind the first n changes, up to the m-th
+-- what stands after the first n changes, up to the m-th
 abbrev pub between : ℕ → ℕ → List Call → List Call
 between n m history = take (m - n) (drop n history)
 
@@ -87,7 +87,7 @@ pub record IsNext (history : List Call) (pass n : ℕ) (e : Ended) : Type 0 wher
   pub last : IsTrue (is_change e.reply) → slice_get history (e.front - 1) ≡ Some e.call
   pub reply : answer (heap_at history (seen_before e.reply e.front)) e.call ≡ e.reply
 
--- The ended calls of a pass that has seen n changes, one after another. It made no change behind the last of them.
+-- The ended calls of a pass that has seen n changes, one after another. It made no change after the last of them.
 abbrev pub Follows : List Call → ℕ → ℕ → List Ended → Type 0
 Follows history pass n [] = made_by pass (drop n history) ≡ []
 Follows history pass n (e ∷ es) = IsNext history pass n e × Follows history pass e.front es

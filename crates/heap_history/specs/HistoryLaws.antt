@@ -89,13 +89,13 @@ fields_of-write_other heap object field value other apart = fields_of-set_other 
 
 -- ---- lists
 
--- an element stays where it is when more come behind it
+-- an element stays where it is when more come after it
 pub slice_get-append : {X : Type 0} → (xs ys : List X) (i : ℕ) (x : X) → slice_get xs i ≡ Some x → slice_get (xs ++ ys) i ≡ Some x
 slice_get-append [] ys i x at = absurd (cc)
 slice_get-append (y ∷ xs) ys zero x at = at
 slice_get-append (y ∷ xs) ys (suc i) x at = slice_get-append xs ys i x at
 
--- the element behind the others
+-- the element after the others
 pub slice_get-push : {X : Type 0} → (xs : List X) (x : X) → slice_get (xs ++ x ∷ []) (length xs) ≡ Some x
 slice_get-push [] x = refl
 slice_get-push (y ∷ xs) x = slice_get-push xs x

@@ -10,9 +10,9 @@ use Rattle.heap_history.specs.declared.call.Reply.{Reply}
 use Rattle.heap_history.specs.declared.call.Reply.TheVariants.{NotThere}
 use Rattle.heap_history.specs.declared.call.Entry.{Entry}
 use Rattle.heap_history.specs.declared.call.Ended.{Ended}
-use Rattle.heap_history.specs.FixedHeaps.{opening, answer, after}
-use Rattle.heap_history.specs.Histories.{heap_after, heap_at, changes, is_change, change_of, seen_before}
-use Rattle.heap_history.specs.HistoryLaws.{changes-append, heap_after-append, heap_at-append, heap_at-length}
+use Rattle.heap_history.specs.FixedHeaps.{answer}
+use Rattle.heap_history.specs.Histories.{heap_at, changes, is_change, change_of, seen_before}
+use Rattle.heap_history.specs.HistoryLaws.{changes-append, heap_at-append, heap_at-length}
 use Rattle.heap_history.specs.NextLaws.{seen_before-le, change_there}
 use Rattle.heap_history.specs.Logs.{entry_of, entries_of, changes_of, heap_of, changes_in, AreCounted, HasReply, IsLog, IsNextCall}
 
@@ -28,7 +28,7 @@ changes_of-append log e = ap changes (entries-append log e) ∙ changes-append (
 pub changes_of-look : (log : List Ended) (e : Ended) → is_change e.reply ≡ false → changes_of (log ++ e ∷ []) ≡ changes_of log
 changes_of-look log e look = changes_of-append log e ∙ ap (λ change. changes_of log ++ (if change then e.call ∷ [] else [])) look ∙ append-nil (changes_of log)
 
--- a change comes behind the others
+-- a change comes after the others
 pub changes_of-change : (log : List Ended) (e : Ended) → is_change e.reply ≡ true → changes_of (log ++ e ∷ []) ≡ changes_of log ++ e.call ∷ []
 changes_of-change log e change = changes_of-append log e ∙ ap (λ b. changes_of log ++ (if b then e.call ∷ [] else [])) change
 
@@ -96,7 +96,7 @@ answered_grows history more e answered =
       there = answered.there;
     }
 
--- a look that saw so many changes
+-- a look that saw a number of changes
 pub IsLog-look : (log : List Ended) (e : Ended) → IsLog log → is_change e.reply ≡ false → e.front ≤ length (changes_of log) → answer (heap_at (changes_of log) e.front) e.call ≡ e.reply → e.reply ≢ NotThere
     → IsLog (log ++ e ∷ [])
 IsLog-look log e heard look within told there =

@@ -31,12 +31,12 @@ heap_of log = heap_after opening (changes_of log)
 abbrev pub of_pass : ℕ → List Ended → List Ended
 of_pass pass log = filter (λ e. pass_of e.call == pass) log
 
--- those of so many passes, from this one on
+-- those of a number of passes, from this one on
 abbrev pub passes_of : ℕ → ℕ → List Ended → List (List Ended)
 passes_of zero pass log = []
 passes_of (suc k) pass log = of_pass pass log ∷ passes_of k (pass + 1) log
 
--- each is a call of one of so many passes
+-- each is a call of one of a number of passes
 abbrev pub AreOfPasses : ℕ → List Ended → Type 0
 AreOfPasses passes log = All (λ e. (1 ≤ pass_of e.call) × (pass_of e.call ≤ passes)) log
 

@@ -96,7 +96,7 @@ IsNext-append history more pass n e next = record {
   reply = ap (λ heap. answer heap e.call) (heap_at-append history more (seen_before e.reply e.front) (seen_before-le e.reply e.front (length history) next.within)) ∙ next.reply;
 }
 
--- A look at the heap after so many changes, where the pass made none since what it had seen.
+-- A look at the heap after a number of changes, where the pass made none since what it had seen.
 pub IsNext-look : (history : List Call) (pass n : ℕ) (e : Ended) → pass_of e.call ≡ pass → e.reply ≢ NotThere → is_change e.reply ≡ false → n ≤ e.front → e.front ≤ length history → made_by pass (drop n history) ≡ []
     → answer (heap_at history e.front) e.call ≡ e.reply → IsNext history pass n e
 IsNext-look history pass n e own_call there look later within rest told = record {

@@ -28,7 +28,7 @@ place_of-look e look = ap (λ b. 2 * e.front + (if b then 0 else 1)) look
 
 -- ---- counted changes
 
--- what a first call says of the changes behind it
+-- what a first call says of the changes after it
 counted-change : (n : ℕ) (e : Ended) (es : List Ended) → is_change e.reply ≡ true → AreCounted n (changes_in (e ∷ es)) → (e.front ≡ n + 1) × AreCounted (n + 1) (changes_in es)
 counted-change n e es change counts = subst (AreCounted n) (in-change e es change) counts
 
@@ -74,7 +74,7 @@ next_change n place [] rising counts some = absurd (omega arith)
 next_change n place (e ∷ es) rising counts some =
     next_change_step n place e es (is_change e.reply) refl rising.0 counts some (λ less more. next_change n (place_of e) es rising.1 less more)
 
--- a look between the changes n and n + 1, where there are as many behind it
+-- a look between the changes n and n + 1, where there are as many after it
 look_front : (n front behind : ℕ) → n ≤ front → front ≤ n + behind → (0 < behind → front ≤ n) → front ≡ n
 look_front n front zero least most next = omega arith
 look_front n front (suc k) least most next = omega (arith, next (omega arith))
@@ -174,7 +174,7 @@ IsArranged-arranged log heard = record { accepted = accepted-shown log heard; pl
 pub of_pass-arranged : (pass : ℕ) (log : List Ended) → IsRising 0 (of_pass pass log) → of_pass pass (arranged log) ≡ of_pass pass log
 of_pass-arranged pass log rising = filter-arranged (λ e. pass_of e.call == pass) log rising
 
--- a change is behind what its pass had seen
+-- a change is after what its pass had seen
 change_later : (history : List Call) (pass n : ℕ) (e : Ended) → is_change e.reply ≡ true → IsNext history pass n e → n ≢ e.front
 change_later history pass n e change next same =
     let none : made_by pass (between n e.front history) ≡ [] = ap (λ k. made_by pass (between n k history)) (sym same) ∙ ap (made_by pass) (between-same n history) in

@@ -1,19 +1,15 @@
 -- What fields hold and how long objects are, after a history with the newest change first.
 use Rattle.std.specs.Prelude.{slice_get, if◌then◌else◌, IsTrue, is_some, unwrap_or, ◌≢◌, ◌⊎◌}
 use Rattle.std.specs.Option.{option_map}
-use Rattle.std.specs.Ordering.{nat_cmp}
-use Rattle.std.specs.BTreeMap.{is_at}
-use Rattle.std.proofs.Common.{◌≡◌, ℕ, zero, suc, ◌<◌, ◌≤◌, List, [], ◌∷◌, length, Bool, true, false, cond, Option, Some, None, refl, sym, ap, ◌∙◌, subst, ⊎_elim, inl, inr, arith}
+use Rattle.std.proofs.Common.{◌≡◌, ℕ, zero, suc, ◌<◌, List, [], ◌∷◌, length, Bool, true, false, Option, Some, None, refl, sym, ap, ◌∙◌, subst, ⊎_elim, inl, inr, arith}
 use Rattle.std.proofs.lemmas.Bool.{cases_eq, eq-eqb, ne_eqb}
 use Rattle.heap_history.specs.declared.call.Value.{Value}
 use Rattle.heap_history.specs.declared.call.Value.TheVariants.{Num, Object}
 use Rattle.heap_history.specs.declared.call.Call.{Call}
 use Rattle.heap_history.specs.declared.call.Call.TheVariants.{NewObject, Read, Write, Exchange}
-use Rattle.heap_history.specs.declared.call.Reply.{Reply}
 use Rattle.heap_history.specs.declared.call.Reply.TheVariants.{Made, Got, Wrote, Done, Differs, NotThere}
 use Rattle.heap_history.specs.FixedHeaps.{Heap, zeros, fields_of, field_in, value_in, is_birth_of, is_same, is_there, got, wrote, compared, write_in, answer, changed, after}
-use Rattle.heap_history.specs.Histories.{is_change}
-use Rattle.heap_history.specs.HistoryLaws.{after-look, fields_of-new, fields_of-new_other, value_in-write, value_in-write_other_field, value_in-write_other}
+use Rattle.heap_history.specs.HistoryLaws.{fields_of-new, fields_of-new_other, value_in-write, value_in-write_other_field, value_in-write_other}
 use Rattle.heap_history.specs.ObjectLaws.{wrote_parts, done_parts, made_absent, len_changed, closed_changed, closed_opening, IsClosed}
 use Rattle.heap_history.specs.NewestFirst.{heap_of_history, Before, value_at, len_at}
 

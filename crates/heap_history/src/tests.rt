@@ -90,7 +90,7 @@ fn what_is_not_there(rt: HostRuntime) -> Result<(), Fail> {
         write(FIRST, 0, Value::Object(MISSING)),
         exchange(2, Value::Num(0), Value::Num(5)),
         exchange(0, Value::Num(9), Value::Object(MISSING)),
-        // Birth numbers: one that is there, the first of pass 2, and those just before and behind pass 1.
+        // Birth numbers: one that is there, the first of pass 2, and those just before and after pass 1.
         new(FIRST, 2),
         new(1_048_577, 2),
         new(524_288, 2),

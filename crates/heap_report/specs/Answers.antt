@@ -7,7 +7,7 @@ use Rattle.heap_script.specs.Words.{Word}
 use Rattle.heap_script.specs.Text.{line_text}
 use Rattle.heap_report.specs.Words.{object_word, value_word}
 
--- an answer's words behind its first three
+-- an answer's words after its first three
 abbrev pub answer_words : Answer → List Word
 answer_words (answers.Made birth) = object_word birth ∷ []
 answer_words answers.Full = codes "full" ∷ []

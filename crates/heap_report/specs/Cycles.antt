@@ -16,7 +16,7 @@ mark_word marks.None = codes "-"
 mark_word (marks.Used mark) = decimal mark
 mark_word (marks.Refused places) = codes "refused"
 
--- The words of a cycle behind the first: its number, how many regions were chosen, objects moved and kept, and
+-- The words of a cycle after the first: its number, how many regions were chosen, objects moved and kept, and
 -- regions given again, and its mark.
 abbrev pub cycle_words : CycleReport → List Word
 cycle_words r =

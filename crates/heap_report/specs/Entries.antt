@@ -9,7 +9,7 @@ use Rattle.heap_script.specs.Words.{Word}
 use Rattle.heap_script.specs.Text.{line_text}
 use Rattle.heap_report.specs.Words.{object_word, place_word, value_word}
 
--- an entry's words behind its first two
+-- an entry's words after its first two
 abbrev pub call_words : Call → Reply → List Word
 call_words (NewObject pass birth len) Made = codes "new" ∷ object_word birth ∷ decimal len ∷ codes "made" ∷ []
 call_words (Write pass object field value) Wrote = codes "put" ∷ place_word object field ∷ value_word value ∷ codes "wrote" ∷ []

@@ -67,7 +67,7 @@ command_line_some passes count line c e =
     let p = said_some (is_printable line) (is_passed_over (words line)) (leb 65536 count) (command passes (words line)) c e in
     (spoken line p.0, p.1)
 
--- ---- the lines behind the heap line
+-- ---- the lines after the heap line
 
 record Behind (heap : Heading) (count : ℕ) (before : List (List ℕ)) (h : List Word) (cs : List (List Word)) : Type 0 where
   said_is : said before ≡ h ∷ cs
@@ -113,7 +113,7 @@ with_command passes h cs all w c (Ok found) e m = record {
   reads = let r = m.reads in rw (e, r) refl;
 }
 
--- From here on: what is read of the lines, behind those before them.
+-- From here on: what is read of the lines, after those before them.
 abbrev First : Heading → List Word → List (List ℕ) → Type 0
 First heap h ls = (n count : ℕ) (before : List (List ℕ)) (cs : List (List Word)) → Behind heap count before h cs → NoFaultBefore (before ++ ls) (length before) → n ≡ length before + 1
     → MatchResult (commands_from heap.0.passes n count ls) (Commands heap.0.passes h cs (before ++ ls)) (IsFirstFault (before ++ ls))

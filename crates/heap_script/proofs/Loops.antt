@@ -82,7 +82,7 @@ script_ends last n ls total e so_far =
     let one : script_from last n ls ≡ Err (last, NoHeapLine) = rw e refl in
     sym so_far ∙ one
 
--- behind the heap line the commands decide
+-- after the heap line the commands decide
 pub script_commands : (last n : ℕ) (h : Sizes × ℕ) (line : List ℕ) (after ls : List (List ℕ)) (cs : List Line) (total : Result Reading Fault)
     → ls ≡ line ∷ after → heap_line line ≡ Ok (Some h) → commands_from h.0.passes (n + 1) 0 after ≡ Ok cs
     → script_from last n ls ≡ total → total ≡ Ok (record { layout = h.0; cycles = h.1; lines = cs })

@@ -81,7 +81,7 @@ plain_not_in c (b ∷ bs) h g =
     let p = and_parts (is_plain b) (list_all is_plain bs) g in
     All-cons (λ x. at c x ≡ false) b bs (plain_other c b h p.0) (plain_not_in c bs h p.1)
 
--- a printable byte, or 0 behind the end, is no CR
+-- a printable byte, or 0 after the end, is no CR
 plain_at : (line : List ℕ) (i : ℕ) → list_all is_plain line ≡ true → eqb (get_or line i 0) 13 ≡ false
 plain_at [] i g = refl
 plain_at (b ∷ bs) zero g = plain_other 13 b (omega arith) (and_parts (is_plain b) (list_all is_plain bs) g).0

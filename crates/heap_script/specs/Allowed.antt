@@ -127,7 +127,7 @@ IsRun quota thread history seat _ _ _ last = ⊥
 abbrev pub commands_of : ℕ → List Line → List Command
 commands_of thread lines = map (λ l. l.command) (filter (λ l. l.thread == thread) lines)
 
--- The answers of one thread: its run, behind which it made no change.
+-- The answers of one thread: its run, after which it made no change.
 pub record IsAllowedThread (quota thread : ℕ) (history : List Call) (commands : List Command) (answers : List Answer) : Type 0 where
   pub fronts : List ℕ
   pub last : Seat

@@ -31,7 +31,7 @@ total-more n lines = sum_by-map-range_with_len_more length (λ k. commands_of k 
 length-commands_of : (l : Line) (ls : List Line) (t : ℕ) → length (commands_of t (l ∷ ls)) ≡ cond (eqb l.thread t) 1 0 + length (commands_of t ls)
 length-commands_of l ls t = grind (arith, nat_tests)
 
--- A line more, and a thread more: the line is this thread's, one's before it, or one's behind it.
+-- A line more, and a thread more: the line is this thread's, one's before it, or one's after it.
 count_step : (n t a b c d e f : ℕ) → (n < t → a ≡ b) → a ≤ b + 1 → c ≡ a + e → d ≡ b + f → e ≡ cond (eqb t (n + 1)) 1 0 + f
     → (n + 1 < t → c ≡ d) × (c ≤ d + 1)
 count_step n t a b c d e f same more ce de ef = grind (arith, nat_tests)

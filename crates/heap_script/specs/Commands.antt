@@ -5,7 +5,7 @@ use Rattle.heap_script.specs.declared.script.Command.{Command}
 use Rattle.heap_script.specs.declared.script.Line.{Line}
 use Rattle.heap_script.specs.Allowed.{commands_of}
 
--- those of so many threads, thread 1's first
+-- those of a number of threads, thread 1's first
 abbrev pub commands_by : ℕ → List Line → List (List Command)
 commands_by threads lines = map (λ t. commands_of t lines) (range_with_len 1 threads)
 

@@ -16,7 +16,7 @@ abbrev pub fault_of : {A : Type 0} → Result A FaultKind → Option FaultKind
 fault_of (Ok x) = None
 fault_of (Err kind) = Some kind
 
--- the fault of a line that stands behind lines which said so much
+-- the fault of a line that stands after lines which said this
 abbrev pub fault_behind : List (List Word) → List ℕ → Option FaultKind
 fault_behind [] line = fault_of (heap_line line)
 fault_behind (h ∷ commands) line = fault_of (heading h >>= λ heap. command_line heap.0.passes (length commands) line)

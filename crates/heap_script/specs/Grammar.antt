@@ -68,7 +68,7 @@ operand w =
 
 -- ---- commands
 
--- `R N`, behind `new`
+-- `R N`, after `new`
 unfoldable pub new_arguments : List Word → Result Command FaultKind
 new_arguments ws = do
   a ← due ws
@@ -78,7 +78,7 @@ new_arguments ws = do
   _ ← ended b.1
   Ok (commands.New dst len)
 
--- `R S.F`, behind `get`
+-- `R S.F`, after `get`
 unfoldable pub get_arguments : List Word → Result Command FaultKind
 get_arguments ws = do
   a ← due ws
@@ -88,7 +88,7 @@ get_arguments ws = do
   _ ← ended b.1
   Ok (commands.Get dst from.0 from.1)
 
--- `S.F V`, behind `put`
+-- `S.F V`, after `put`
 unfoldable pub put_arguments : List Word → Result Command FaultKind
 put_arguments ws = do
   a ← due ws
@@ -98,7 +98,7 @@ put_arguments ws = do
   _ ← ended b.1
   Ok (commands.Put into.0 into.1 what)
 
--- `R S.F V V`, behind `cas`
+-- `R S.F V V`, after `cas`
 unfoldable pub cas_arguments : List Word → Result Command FaultKind
 cas_arguments ws = do
   a ← due ws
@@ -112,7 +112,7 @@ cas_arguments ws = do
   _ ← ended d.1
   Ok (commands.Cas dst into.0 into.1 expected value)
 
--- `R S`, behind `copy`
+-- `R S`, after `copy`
 unfoldable pub copy_arguments : List Word → Result Command FaultKind
 copy_arguments ws = do
   a ← due ws
@@ -122,7 +122,7 @@ copy_arguments ws = do
   _ ← ended b.1
   Ok (commands.Copy dst src)
 
--- `R`, behind `drop`
+-- `R`, after `drop`
 unfoldable pub drop_arguments : List Word → Result Command FaultKind
 drop_arguments ws = do
   a ← due ws
@@ -130,13 +130,13 @@ drop_arguments ws = do
   _ ← ended a.1
   Ok (commands.Drop dst)
 
--- nothing, behind `poll`
+-- nothing, after `poll`
 unfoldable pub poll_arguments : List Word → Result Command FaultKind
 poll_arguments ws = do
   _ ← ended ws
   Ok commands.Poll
 
--- the words behind a command's name
+-- the words after a command's name
 unfoldable pub arguments : Word → List Word → Result Command FaultKind
 arguments name ws =
     if bytes_eq name (codes "new") then new_arguments ws
@@ -148,7 +148,7 @@ arguments name ws =
     else if bytes_eq name (codes "poll") then poll_arguments ws
     else Err BadWord
 
--- `T NAME ..`: the thread, the command's name, and the words behind it
+-- `T NAME ..`: the thread, the command's name, and the words after it
 unfoldable pub command : ℕ → List Word → Result Line FaultKind
 command passes ws = do
   a ← due ws
@@ -211,7 +211,7 @@ heap_line line =
       h ← heading (words line)
       Ok (Some h))
 
--- what a line says behind the heap line and so many commands: nothing, or a command
+-- what a line says after the heap line and a number of commands: nothing, or a command
 unfoldable pub command_line : ℕ → ℕ → List ℕ → Result (Option Line) FaultKind
 command_line passes count line =
     if not (is_printable line) then Err NotAscii
@@ -229,7 +229,7 @@ abbrev pub at_line : {A : Type 0} → ℕ → Result A FaultKind → Result A Fa
 at_line n (Ok x) = Ok x
 at_line n (Err kind) = Err (n, kind)
 
--- What the lines from the n-th on say, where `say` reads a line behind so many things that were said.
+-- What the lines from the n-th on say, where `say` reads a line after a number of things that were said.
 unfoldable pub each_from : {A : Type 0} → (ℕ → List ℕ → Result (Option A) FaultKind) → ℕ → ℕ → List (List ℕ) → Result (List A) Fault
 each_from say n count [] = Ok []
 each_from say n count (line ∷ after) =
@@ -238,7 +238,7 @@ each_from say n count (line ∷ after) =
       | Some x ↦ each_from say (n + 1) (count + 1) after >>= λ xs. Ok (x ∷ xs)
     ]
 
--- the commands of the lines from the n-th on, behind so many commands
+-- the commands of the lines from the n-th on, after a number of commands
 abbrev pub commands_from : ℕ → ℕ → ℕ → List (List ℕ) → Result (List Line) Fault
 commands_from passes n count ls = each_from (command_line passes) n count ls
 

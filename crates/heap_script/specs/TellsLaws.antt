@@ -84,7 +84,7 @@ module _ (t : Thread) (s : Standing) (answers : List Answer) (log : List Ended) 
       → of_pass t.number (log ++ record { call = call; reply = reply_of a; front = front } ∷ []) ≡ of_pass t.number log ++ ended_with call_is a front
   own_calls call front some own = own_call t.number log (record { call = call; reply = reply_of a; front = front }) own ∙ ap (λ o. of_pass t.number log ++ ended_with o a front) (sym some)
 
-  -- The command was a look, which saw the heap after so many changes. The thread has then seen these.
+  -- The command was a look, which saw the heap after a number of changes. The thread has then seen these.
   pub tells_look : (call : Call) (front : ℕ) (registers : List Value) → call_is ≡ Some call → IsNumbered t.number told.seat a → is_change (reply_of a) ≡ false → pass_of call ≡ t.number → told.seat.seen ≤ front → front ≤ length h
       → answer (heap_at h front) call ≡ reply_of a → registers_after told.seat c a ≡ registers → length (lens_after told.seat c a) ≡ s.made
       → Tells t (record { made = s.made; seen = front; registers = registers }) (answers ++ a ∷ []) (log ++ record { call = call; reply = reply_of a; front = front } ∷ [])

@@ -20,7 +20,7 @@ abbrev pub is_passed_over : List Word → Bool
 is_passed_over [] = true
 is_passed_over (w ∷ ws) = slice_index w 0 == 59
 
--- the number that the digits make behind those of a number so far
+-- the number that the digits make after those of a number so far
 abbrev pub digits_from : ℕ → List ℕ → Option ℕ
 digits_from so_far [] = Some so_far
 digits_from so_far (b ∷ bs) = if is_ascii_digit b then digits_from (so_far * 10 + (b - 48)) bs else None

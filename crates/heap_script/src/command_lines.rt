@@ -1,4 +1,4 @@
-//! The lines behind the heap line.
+//! The lines after the heap line.
 
 ghost use Rattle.std.specs.Prelude.{◌≡◌, ◌<◌, IfOk, IfSome};
 ghost use Rattle.heap_script.specs.Words.{words};
@@ -12,7 +12,7 @@ use crate::script::{Command, Line};
 use crate::words::{all_printable, passed_over};
 use heap_words::MOST_FIELDS;
 
-/// `R N`, behind `new`.
+/// `R N`, after `new`.
 #[tactic(auto, unfolding(crate::specs::Grammar::new_arguments))]
 fn new_arguments(line: &[u8]) -> Result<Command, FaultKind>
     ensures exact { Gives (λ x. x) result (new_arguments_of (words line.now)) }
@@ -29,7 +29,7 @@ fn new_arguments(line: &[u8]) -> Result<Command, FaultKind>
     })
 }
 
-/// `R S.F`, behind `get`.
+/// `R S.F`, after `get`.
 #[tactic(auto, unfolding(crate::specs::Grammar::get_arguments))]
 fn get_arguments(line: &[u8]) -> Result<Command, FaultKind>
     ensures exact { Gives (λ x. x) result (get_arguments_of (words line.now)) }
@@ -43,7 +43,7 @@ fn get_arguments(line: &[u8]) -> Result<Command, FaultKind>
     Ok(Command::Get { dst, obj, field })
 }
 
-/// `S.F V`, behind `put`.
+/// `S.F V`, after `put`.
 #[tactic(auto, unfolding(crate::specs::Grammar::put_arguments))]
 fn put_arguments(line: &[u8]) -> Result<Command, FaultKind>
     ensures exact { Gives (λ x. x) result (put_arguments_of (words line.now)) }
@@ -57,7 +57,7 @@ fn put_arguments(line: &[u8]) -> Result<Command, FaultKind>
     Ok(Command::Put { obj, field, what })
 }
 
-/// `R S.F V V`, behind `cas`.
+/// `R S.F V V`, after `cas`.
 #[tactic(auto, unfolding(crate::specs::Grammar::cas_arguments))]
 fn cas_arguments(line: &[u8]) -> Result<Command, FaultKind>
     ensures exact { Gives (λ x. x) result (cas_arguments_of (words line.now)) }
@@ -81,7 +81,7 @@ fn cas_arguments(line: &[u8]) -> Result<Command, FaultKind>
     })
 }
 
-/// `R S`, behind `copy`.
+/// `R S`, after `copy`.
 #[tactic(auto, unfolding(crate::specs::Grammar::copy_arguments))]
 fn copy_arguments(line: &[u8]) -> Result<Command, FaultKind>
     ensures exact { Gives (λ x. x) result (copy_arguments_of (words line.now)) }
@@ -95,7 +95,7 @@ fn copy_arguments(line: &[u8]) -> Result<Command, FaultKind>
     Ok(Command::Copy { dst, src })
 }
 
-/// `R`, behind `drop`.
+/// `R`, after `drop`.
 #[tactic(auto, unfolding(crate::specs::Grammar::drop_arguments))]
 fn drop_arguments(line: &[u8]) -> Result<Command, FaultKind>
     ensures exact { Gives (λ x. x) result (drop_arguments_of (words line.now)) }
@@ -107,7 +107,7 @@ fn drop_arguments(line: &[u8]) -> Result<Command, FaultKind>
     Ok(Command::Drop { dst })
 }
 
-/// Nothing, behind `poll`.
+/// Nothing, after `poll`.
 #[tactic(auto, unfolding(crate::specs::Grammar::poll_arguments))]
 fn poll_arguments(line: &[u8]) -> Result<Command, FaultKind>
     ensures exact { Gives (λ x. x) result (poll_arguments_of (words line.now)) }
@@ -117,7 +117,7 @@ fn poll_arguments(line: &[u8]) -> Result<Command, FaultKind>
     Ok(Command::Poll)
 }
 
-/// What stands behind a command's name.
+/// What stands after a command's name.
 #[tactic(auto, unfolding(crate::specs::Grammar::arguments))]
 fn arguments(name: &[u8], line: &[u8]) -> Result<Command, FaultKind>
     ensures exact { Gives (λ x. x) result (arguments_of name.now (words line.now)) }
@@ -158,7 +158,7 @@ fn command(passes: u32, line: &[u8]) -> Result<Line, FaultKind>
     })
 }
 
-/// What a line says behind the heap line and `count` commands: nothing, or a command.
+/// What a line says after the heap line and `count` commands: nothing, or a command.
 #[tactic(auto, unfolding(crate::specs::Grammar::command_line))]
 pub(crate) fn command_line(
     passes: u32,

@@ -71,7 +71,7 @@ impl Commands {
         self.lists.len() as u32
     }
 
-    /// The command of a thread behind so many of its commands.
+    /// The command of a thread after `index` of its commands.
     pub fn get(&self, thread: u32, index: usize) -> Option<Command>
         requires least { 1 ≤ thread }
         requires most { thread ≤ length self.now }

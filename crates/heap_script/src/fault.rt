@@ -10,7 +10,7 @@ use std::alloc::{AllocError, AllocFailed};
 pub enum FaultKind {
     /// A line stands before the heap line, or there is no heap line.
     NoHeapLine,
-    /// A word is missing, is another than the one due, or stands behind the last one due.
+    /// A word is missing, is another than the one due, or stands after the last one due.
     BadWord,
     /// A word is no number, or a number of a command is out of its range.
     BadNumber,

@@ -74,7 +74,7 @@ fn room_for_answers(alloc: Global, commands: &Commands) -> Result<Answers, OutOf
     Ok(Answers { lists })
 }
 
-/// No refused tries of the commands of a thread, which has so many.
+/// No refused tries of the commands of a thread, which has `count` of them.
 fn push_untried(agains: &mut Vec<Again>, thread: u32, count: u32) -> Result<(), OutOfMemory>
     ensures { OnOk result (agains.new.items
         ≡ agains.old.items ++ map (λ number. untried thread number) (range_with_len 1 count)) }
