@@ -1,5 +1,5 @@
 -- The plan of a cycle: which regions are emptied, and where the copy of each of their objects is laid.
-use Rattle.std.specs.Prelude.{◌≡◌, ℕ, ◌+◌, ◌*◌, ◌/◌, ◌%◌, ◌<◌, ◌≤◌, Bool, IsTrue, ◌&&◌, ◌||◌, not, ◌==◌, nat_le, if◌then◌else◌, List, [], ◌∷◌, ◌++◌, length, slice_index}
+use Rattle.std.specs.Prelude.{◌≡◌, ℕ, ◌+◌, ◌*◌, ◌/◌, ◌%◌, ◌<◌, ◌≤◌, Bool, IsTrue, ◌&&◌, ◌||◌, not, ◌==◌, nat_le, if◌then◌else◌, List, [], ◌∷◌, ◌++◌, length, take, slice_index}
 use Rattle.std.specs.List.{All, AllPairs, filter, flat_map, list_any, sum_by}
 use Rattle.heap_words.specs.Layouts.{Sizes, IsLayout, IsRegion, regions_of, first_word, wide_at}
 use Rattle.heap_words.specs.Packing.{fits_behind}
@@ -108,24 +108,45 @@ jobs_after s used wide [] = []
 jobs_after s used wide (o ∷ rest) =
     job_after s used wide o ∷ jobs_after s (begins_after used o.len + o.len + 1) (wide + o.len + 1) rest
 
--- what holds of the layout and of the reserved rooms of every plan: a region each, and a job for each word of the pool
-pub record IsRoomy (l : Sizes) (chosen_room job_room : ℕ) : Type 0 where
+-- what holds of the layout and of the reserved rooms of every plan: a region each, the pool's regions, and a job for each word of the pool
+pub record IsRoomy (l : Sizes) (chosen_room target_room job_room : ℕ) : Type 0 where
   pub layout : IsLayout l
   pub chosen : regions_of l ≤ chosen_room
+  pub targets : l.pool ≤ target_room
   pub jobs : 64 * l.pool ≤ job_room
+
+-- how many regions so many used words of the strip are, the last one begun
+abbrev pub regions_begun : ℕ → ℕ
+regions_begun used = (used + 63) / 64
+
+-- the free regions to which objects are copied: the first ones of the strip
+abbrev pub targets_of : Space → List ObjectRow → List ℕ
+targets_of s objects = take (regions_begun (strip_after 0 objects)) s.pool_free
+
+-- how many words of the wide area objects take
+abbrev pub wide_words_of : Space → List ObjectRow → ℕ
+wide_words_of s objects = if is_stopless s.kind then words_of objects else 0
 
 -- what a plan says, and the layout that it has room for
 pub record Planned : Type 0 where
   pub layout : Sizes
   pub chosen : List ℕ
+  pub targets : List ℕ
   pub jobs : List MoveJob
+  pub wide_words : ℕ
 
--- the chosen regions, and a job for each of their objects
+-- before any
+abbrev pub nothing_planned : Sizes → Planned
+nothing_planned l = record { layout = l; chosen = []; targets = []; jobs = []; wide_words = 0 }
+
+-- the chosen regions, the regions to which their objects are copied, a job for each of these, and the words of the wide area that they take
 abbrev pub plan_with : Space → List ObjectRow → List ℕ → Planned
-plan_with s objects chosen = record {
+plan_with s objects chosen = let moved = objects_in_all objects chosen in record {
   layout = s.layout;
   chosen = chosen;
-  jobs = jobs_after s 0 0 (objects_in_all objects chosen);
+  targets = targets_of s moved;
+  jobs = jobs_after s 0 0 moved;
+  wide_words = wide_words_of s moved;
 }
 
 -- the plan for what was found

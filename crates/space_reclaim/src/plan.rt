@@ -1,6 +1,6 @@
 //! Which regions a cycle empties, and where the copy of each of their objects is laid.
 
-ghost use Rattle.std.specs.Prelude.{◌≡◌, ◌==◌, [], IfOk};
+ghost use Rattle.std.specs.Prelude.{◌≡◌, ◌≢◌, ◌+◌, ◌≤◌, ◌==◌, ◌++◌, length, vec_len, vec_capacity, IfOk};
 ghost use Rattle.std.specs.List.{prefix_len};
 
 use crate::move_job::MoveJob;
@@ -42,13 +42,26 @@ fn count_in(objects: &[ObjectRow], region: u32) -> usize
         .count()
 }
 
-/// Which regions a cycle empties, in rising number, and the jobs that empty them, by region and then by
-/// address. There is room from the start for all that the layout can have.
+/// Adds regions, for which there is room.
+fn add_regions(list: &mut Vec<u32>, regions: &[u32])
+    requires { vec_len list.old + length regions.now ≤ vec_capacity list.old }
+    ensures regions { list.new.items ≡ list.old.items ++ regions.now }
+    ensures room { vec_capacity list.new ≡ vec_capacity list.old }
+{
+    for &region in regions {
+        list.push_reserved(region);
+    }
+}
+
+/// Which regions a cycle empties, in rising number, the jobs that empty them, by region and then by address, and
+/// where these copy to. There is room from the start for all that the layout can have.
 #[derive(Drop)]
 pub struct Plan {
     layout: Layout,
     chosen: Vec<u32>,
+    targets: Vec<u32>,
     jobs: Vec<MoveJob>,
+    wide_words: u32,
 }
 
 impl Model for Plan {
@@ -57,25 +70,28 @@ impl Model for Plan {
 
     ghost Value = { Planned };
 
-    ghost view = { λ p. record { layout = p.layout; chosen = p.chosen.items; jobs = p.jobs.items } };
+    ghost view = { λ p. record { layout = p.layout; chosen = p.chosen.items; targets = p.targets.items; jobs = p.jobs.items; wide_words = p.wide_words } };
 
-    ghost invariant = { λ p. IsRoomy p.layout (vec_capacity p.chosen) (vec_capacity p.jobs) };
+    ghost invariant = { λ p. IsRoomy p.layout (vec_capacity p.chosen) (vec_capacity p.targets) (vec_capacity p.jobs) };
 }
 
 impl Plan {
-    ghost use Rattle.space_reclaim.specs.Plans.{IsSpace, IsFound, space_of, plan_of};
-    ghost use Rattle.space_reclaim.specs.PlanMeanings.{AreCopiesApart, AreWideApart, EmptiesChosen};
+    ghost use Rattle.space_reclaim.specs.Plans.{IsSpace, IsFound, space_of, plan_of, nothing_planned};
+    ghost use Rattle.space_reclaim.specs.PlanMeanings.{EmptiesChosen, AreCopiesApart, FillsTargets, AreLaidInOrder, AreWideLaid, HasNoWide};
 
     /// The empty plan, with room for all that the layout can have.
     pub fn with_room(alloc: Global, layout: &Layout) -> Result<Plan, OutOfMemory>
-        ensures { IfOk result (λ plan. plan ≡ record { layout = layout.now; chosen = []; jobs = [] }) }
+        ensures { IfOk result (λ plan. plan ≡ nothing_planned layout.now) }
     {
         let chosen = Vec::with_capacity(alloc, layout.regions() as usize)?;
+        let targets = Vec::with_capacity(alloc, layout.pool() as usize)?;
         let jobs = Vec::with_capacity(alloc, (REGION_WORDS * layout.pool()) as usize)?;
         Ok(Plan {
             layout: *layout,
             chosen,
+            targets,
             jobs,
+            wide_words: 0,
         })
     }
 
@@ -84,6 +100,21 @@ impl Plan {
         ensures { result.now ≡ self.now.chosen }
     {
         self.chosen.as_slice()
+    }
+
+    /// The regions to which objects are copied, in rising number: the first ones of the pool that were found Free.
+    pub fn targets(&self) -> &[u32]
+        ensures { result.now ≡ self.now.targets }
+    {
+        self.targets.as_slice()
+    }
+
+    /// How many words of the wide area the wide objects take, which follow each other from its first word on; 0
+    /// where there are none.
+    pub fn wide_words(&self) -> u32
+        ensures { result ≡ self.now.wide_words }
+    {
+        self.wide_words
     }
 
     /// The jobs, by region and then by address.
@@ -112,14 +143,20 @@ impl Plan {
         requires found { IsFound self.old.layout rows.now objects.now }
         ensures plan { self.new ≡ plan_of (space_of self.old.layout pool_free.now wide_free kind) rows.now objects.now }
 
-        // No copy leaves its region or overlaps another, nor does a wide object.
-        ensures copies { AreCopiesApart (space_of self.old.layout pool_free.now wide_free kind) self.new.jobs }
-        ensures wide { kind ≡ Kind.Stopless → AreWideApart (space_of self.old.layout pool_free.now wide_free kind) self.new.jobs }
-
-        // Each live object of a chosen region has exactly one job.
+        // Each live object of a chosen region has exactly one job, and there are no others.
         ensures empties { EmptiesChosen rows.now objects.now self.new }
+
+        // No copy leaves its region or overlaps another. Each is laid where those before it end in its region.
+        ensures copies { AreCopiesApart (space_of self.old.layout pool_free.now wide_free kind) self.new.jobs }
+        ensures targets { FillsTargets (space_of self.old.layout pool_free.now wide_free kind) self.new }
+        ensures laid { AreLaidInOrder (space_of self.old.layout pool_free.now wide_free kind) self.new.jobs }
+
+        // With Stopless wide objects follow each other in the wide area. Others have none.
+        ensures wide { kind ≡ Kind.Stopless → AreWideLaid (space_of self.old.layout pool_free.now wide_free kind) self.new }
+        ensures narrow { kind ≢ Kind.Stopless → HasNoWide self.new }
     {
         self.chosen.clear();
+        self.targets.clear();
         self.jobs.clear();
         let space = Space {
             layout: self.layout,
@@ -138,6 +175,8 @@ impl Plan {
                 used = after;
             }
         }
+        add_regions(&mut self.targets, space.begun(used));
+        self.wide_words = space.wide_words(used);
     }
 }
 

@@ -1,10 +1,10 @@
 //! The space for copies, and how much of it is used.
 
-ghost use Rattle.std.specs.Prelude.{◌≡◌, ◌+◌, ◌*◌, ◌<◌, ◌≤◌, ◌^◌, ◌++◌, ◌&&◌, nat_le, if◌then◌else◌, Some, None, length, vec_capacity, vec_len};
+ghost use Rattle.std.specs.Prelude.{◌≡◌, ◌+◌, ◌*◌, ◌<◌, ◌≤◌, ◌^◌, ◌++◌, ◌&&◌, nat_le, if◌then◌else◌, Some, None, length, take, vec_capacity, vec_len};
 ghost use Rattle.std.specs.List.{All};
 ghost use Rattle.heap_words.specs.Layouts.{wide_at};
 ghost use Rattle.object_headers.specs.Changes.{is_stopless};
-ghost use Rattle.space_reclaim.specs.Plans.{begins_after, words_of, strip_after, strip_at, has_room, job_after, jobs_after};
+ghost use Rattle.space_reclaim.specs.Plans.{begins_after, words_of, strip_after, strip_at, has_room, regions_begun, job_after, jobs_after};
 
 use crate::move_job::MoveJob;
 use crate::plan::{ObjectRow, RegionLive};
@@ -123,6 +123,25 @@ impl<'a> Space<'a> {
     {
         match self.kind {
             Kind::Stopless => self.layout.wide_at() + words,
+            Kind::AtRest | Kind::Chicken | Kind::Clover => 0,
+        }
+    }
+
+    /// The free regions of which words are used.
+    pub fn begun(&self, used: Used) -> &[u32]
+        requires { used.strip ≤ 64 * length self.now.pool_free }
+        ensures { result.now ≡ take (regions_begun used.strip) self.now.pool_free }
+    {
+        let count = used.strip / REGION_WORDS + u32::from(used.strip % REGION_WORDS != 0);
+        &self.pool_free[..count as usize]
+    }
+
+    /// How many words of the wide area are used.
+    pub fn wide_words(&self, used: Used) -> u32
+        ensures { result ≡ (if is_stopless self.now.kind then used.words else 0) }
+    {
+        match self.kind {
+            Kind::Stopless => used.words,
             Kind::AtRest | Kind::Chicken | Kind::Clover => 0,
         }
     }

@@ -1,0 +1,5 @@
+pub mod Notes
+pub mod Noting
+pub mod Passing
+pub mod StillWords
+pub mod Walks

@@ -1,0 +1,45 @@
+-- What was noted so far fits the place of the walk, whatever words it has found.
+use Rattle.std.specs.Prelude.{◌≡◌, ℕ, ◌+◌, ◌<◌, List, [], ◌∷◌, ◌++◌, Some, None}
+use Rattle.std.specs.List.{All, AllPairs}
+use Rattle.heap_words.specs.Layouts.{Sizes, regions_of}
+use Rattle.heap_words.specs.declared.limits.TheConstants.{REGION_WORDS}
+use Rattle.space_reclaim.specs.declared.plan.RegionLive.{RegionLive}
+use Rattle.space_reclaim.specs.Plans.{IsFound}
+use Rattle.live_walk.specs.declared.note.NoteMachine.{NoteMachine}
+use Rattle.live_walk.specs.declared.note.NoteMachine.TheVariants as note
+use Rattle.live_walk.specs.Walks.{walk_of, first_of, address}
+use Rattle.live_walk.specs.Notes.{Notes}
+
+-- its cursor: the address in the regions up to which it has come
+abbrev pub cursor_of : NoteMachine → ℕ
+cursor_of (note.Region w region) = first_of w region
+cursor_of (note.Header w region offset live) = address w region offset
+cursor_of (note.Ended w) = first_of w w.regions
+
+-- the region to which it has come
+abbrev pub region_of : NoteMachine → ℕ
+region_of (note.Region w region) = region
+region_of (note.Header w region offset live) = region
+region_of (note.Ended w) = w.regions
+
+-- it walks the regions of this layout, and is inside one
+abbrev pub Walks : Sizes → NoteMachine → Type 0
+Walks l (note.Region w region) = (w ≡ walk_of l) × (region < regions_of l)
+Walks l (note.Header w region offset live) = (w ≡ walk_of l) × (region < regions_of l) × (offset < REGION_WORDS)
+Walks l (note.Ended w) = w ≡ walk_of l
+
+-- the regions noted, and the one in which it is if that was Filled, with the words of its live objects up to the cursor
+abbrev pub regions_so_far : NoteMachine → List RegionLive → List RegionLive
+regions_so_far (note.Header w region offset (Some live)) rows = rows ++ record { region = region; words = live } ∷ []
+regions_so_far m rows = rows
+
+-- What is noted can be planned from: regions and objects rise, each object lies in its region, and each region has the words of its objects; the free
+-- regions of the pool rise. Nothing is noted that the walk has not passed.
+pub record IsNoting (m : NoteMachine) (n : Notes) : Type 0 where
+  pub walks : Walks n.layout m
+  pub found : IsFound n.layout (regions_so_far m n.live) n.objects
+  pub passed : All (λ o. o.at + o.len < cursor_of m) n.objects
+  pub walked : All (λ r. r.region < region_of m) n.live
+  pub pool_rises : AllPairs (λ a b. a < b) n.pool_free
+  pub in_pool : All (λ region. region < n.layout.pool) n.pool_free
+  pub free_walked : All (λ region. region < region_of m) n.pool_free
