@@ -4,4 +4,6 @@ pub mod Strip
 pub mod Found
 pub mod Progress
 pub mod Copies
+pub mod Laid
+pub mod Moved
 pub mod Chosen

@@ -20,8 +20,9 @@ pub record Moves (o : ObjectRow) (j : MoveJob) : Type 0 where
 abbrev pub MovesOneOf : List ObjectRow → List ℕ → MoveJob → Type 0
 MovesOneOf objects regions j = Any (λ o. Contains regions o.region × Moves o j) objects
 
--- The chosen regions rise. Each was found Filled, and all that have no live words are among them. The jobs are those of their objects, in order: each job
--- moves one of them, each of them has a job, and no two jobs are of one object, since they rise.
+-- The chosen regions rise. Each was found Filled, and all that have no live words are among them. The jobs are those of
+-- their objects, in order: each job moves one of them, each of them has a job, and no two jobs are of one object, since
+-- they rise.
 pub record EmptiesChosen (rows : List RegionLive) (objects : List ObjectRow) (plan : Planned) : Type 0 where
   pub rise : AllPairs (λ a b. a < b) plan.chosen
   pub filled : All (λ region. Any (λ r. r.region ≡ region) rows) plan.chosen
@@ -54,8 +55,8 @@ region_around l at = (at - first_word l 0) / 64
 abbrev pub target_of : Sizes → MoveJob → ℕ
 target_of l j = region_around l j.to
 
--- The regions to which objects are copied: the first ones of the free regions of the pool, which rise. Each job copies to one of them, and each of them
--- gets a copy.
+-- The regions to which objects are copied: the first ones of the free regions of the pool, which rise. Each job copies
+-- to one of them, and each of them gets a copy.
 pub record FillsTargets (s : Space) (plan : Planned) : Type 0 where
   pub first : plan.targets ≡ take (length plan.targets) s.pool_free
   pub rise : AllPairs (λ a b. a < b) plan.targets
@@ -67,15 +68,19 @@ pub record FillsTargets (s : Space) (plan : Planned) : Type 0 where
 abbrev pub ends_with : Sizes → (ℕ → ℕ) → MoveJob → ℕ → ℕ
 ends_with l ends j region = if region == target_of l j then j.to + 1 + j.len else ends region
 
--- where the objects of each region end so, each job in turn lays its copy at the very end of those in its region, and it fits the region
+-- where the objects of each region end so, each job in turn lays its copy at the very end of those in its region, and it
+-- fits the region
 abbrev pub AreLaid : Sizes → (ℕ → ℕ) → List MoveJob → Type 0
 AreLaid l ends [] = Unit {0}
 AreLaid l ends (j ∷ rest) =
-    (j.to ≡ ends (target_of l j)) × (j.to + 1 + j.len ≤ first_word l (target_of l j) + 64) × AreLaid l (ends_with l ends j) rest
+    (j.to ≡ ends (target_of l j))
+    × (j.to + 1 + j.len ≤ first_word l (target_of l j) + 64)
+    × AreLaid l (ends_with l ends j) rest
 
 -- copies are laid in order: so it is from where each free region of the pool ends at its first word
 abbrev pub AreLaidInOrder : Space → List MoveJob → Type 0
-AreLaidInOrder s jobs = (ends : ℕ → ℕ) → All (λ region. ends region ≡ first_word s.layout region) s.pool_free → AreLaid s.layout ends jobs
+AreLaidInOrder s jobs =
+    (ends : ℕ → ℕ) → All (λ region. ends region ≡ first_word s.layout region) s.pool_free → AreLaid s.layout ends jobs
 
 -- ---- where wide objects lie
 
@@ -84,12 +89,14 @@ abbrev pub FollowFrom : ℕ → List MoveJob → Type 0
 FollowFrom at [] = Unit {0}
 FollowFrom at (j ∷ rest) = (j.wide ≡ at) × FollowFrom (at + j.len + 1) rest
 
--- They follow each other from the first word of the wide area on, and end in its free words; so none overlaps another. The plan says how many words they take.
+-- They follow each other from the first word of the wide area on, and end in its free words; so none overlaps another. The
+-- plan says how many words they take.
 pub record AreWideLaid (s : Space) (plan : Planned) : Type 0 where
   pub follow : FollowFrom (wide_at s.layout) plan.jobs
   pub words : plan.wide_words ≡ sum_by (λ j. j.len + 1) plan.jobs
   pub fits : plan.wide_words ≤ s.wide_free
-  pub within : All (λ j. (wide_at s.layout ≤ j.wide) × (j.wide + j.len < wide_at s.layout + plan.wide_words)) plan.jobs
+  pub begin : All (λ j. wide_at s.layout ≤ j.wide) plan.jobs
+  pub end : All (λ j. j.wide + j.len < wide_at s.layout + plan.wide_words) plan.jobs
   pub apart : AllPairs (λ j k. j.wide + j.len < k.wide) plan.jobs
 
 -- there are none

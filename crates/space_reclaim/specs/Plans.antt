@@ -108,7 +108,8 @@ jobs_after s used wide [] = []
 jobs_after s used wide (o ∷ rest) =
     job_after s used wide o ∷ jobs_after s (begins_after used o.len + o.len + 1) (wide + o.len + 1) rest
 
--- what holds of the layout and of the reserved rooms of every plan: a region each, the pool's regions, and a job for each word of the pool
+-- what holds of the layout and of the reserved rooms of every plan: a region each, the pool's regions, and a job for each
+-- word of the pool
 pub record IsRoomy (l : Sizes) (chosen_room target_room job_room : ℕ) : Type 0 where
   pub layout : IsLayout l
   pub chosen : regions_of l ≤ chosen_room
@@ -139,7 +140,8 @@ pub record Planned : Type 0 where
 abbrev pub nothing_planned : Sizes → Planned
 nothing_planned l = record { layout = l; chosen = []; targets = []; jobs = []; wide_words = 0 }
 
--- the chosen regions, the regions to which their objects are copied, a job for each of these, and the words of the wide area that they take
+-- the chosen regions, the regions to which their objects are copied, a job for each of these, and the words of the wide
+-- area that they take
 abbrev pub plan_with : Space → List ObjectRow → List ℕ → Planned
 plan_with s objects chosen = let moved = objects_in_all objects chosen in record {
   layout = s.layout;

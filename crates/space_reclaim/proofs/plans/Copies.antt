@@ -1,14 +1,16 @@
 -- Copies laid on the strip lie within regions and after each other; so do wide objects.
-use Rattle.std.proofs.Common.{◌≡◌, ℕ, ◌+◌, ◌*◌, ◌/◌, ◌%◌, ◌<◌, ◌≤◌, true, List, [], ◌∷◌, length, get_or, refl, arith, inl, inr}
-use Rattle.std.specs.List.{All, AllPairs, AllZip}
+use Rattle.std.proofs.Common.{◌≡◌, ℕ, ◌+◌, ◌*◌, ◌/◌, ◌%◌, ◌<◌, ◌≤◌, true, false, List, [], ◌∷◌, length, get_or, refl, ap, sym, ◌∙◌, subst, arith, inl, inr}
+use Rattle.std.specs.List.{All, AllPairs, AllZip, sum_by}
 use Rattle.std.proofs.lemmas.Bool.Decides.{eqb_tells}
 use Rattle.std.proofs.lemmas.List.Elements.{All-nil, All-cons, All-head, All-tail, All-weaker, Contains-get_or}
 use Rattle.std.proofs.lemmas.List.Kept.{AllPairs-cons}
+use Rattle.std.proofs.lemmas.List.Sums.{sum_by-cons}
 use Rattle.heap_words.specs.Layouts.{Sizes, first_word, wide_at}
 use Rattle.object_headers.specs.Changes.{is_stopless}
 use Rattle.space_reclaim.specs.declared.plan.ObjectRow.{ObjectRow}
+use Rattle.space_reclaim.specs.declared.move_job.MoveJob.{MoveJob}
 use Rattle.space_reclaim.specs.Plans.{Space, words_of, begins_after, strip_after, strip_at, job_after, jobs_after}
-use Rattle.space_reclaim.specs.PlanMeanings.{LiesInPool, AreCopiesApart, AreWideApart, Moves}
+use Rattle.space_reclaim.specs.PlanMeanings.{LiesInPool, AreCopiesApart, FollowFrom, Moves}
 use Rattle.space_reclaim.proofs.plans.Strip.{begins_after-bound, begins_after-within, strip_after-least, words_of-cons}
 
 -- a word of the strip after others in one region, or in a later one
@@ -54,6 +56,22 @@ module _ (s : Space) (stopless : is_stopless s.kind ≡ true) where
   wide_is : (used words : ℕ) (o : ObjectRow) → (job_after s used words o).wide ≡ wide_at s.layout + words
   wide_is used words o = rw stopless refl
 
+  -- wide objects follow each other
+  pub wide_follow : (used words : ℕ) (objects : List ObjectRow) → FollowFrom (wide_at s.layout + words) (jobs_after s used words objects)
+  wide_follow used words [] = tt
+  wide_follow used words (o ∷ rest) =
+      let next : wide_at s.layout + (words + o.len + 1) ≡ wide_at s.layout + words + o.len + 1 = omega arith in
+      (wide_is used words o, subst (λ at. FollowFrom at (jobs_after s (begins_after used o.len + o.len + 1) (words + o.len + 1) rest)) next (wide_follow (begins_after used o.len + o.len + 1) (words + o.len + 1) rest))
+
+  -- they lie in so many words of the wide area
+  pub wide_within : (most used words : ℕ) (objects : List ObjectRow) → words + words_of objects ≤ most → All (λ j. (wide_at s.layout ≤ j.wide) × (j.wide + j.len < wide_at s.layout + most)) (jobs_after s used words objects)
+  wide_within most used words [] fits = All-nil (λ j. (wide_at s.layout ≤ j.wide) × (j.wide + j.len < wide_at s.layout + most))
+  wide_within most used words (o ∷ rest) fits =
+      let room : words + o.len + 1 + words_of rest ≤ most = omega (arith, fits, words_of-cons o rest) in
+      All-cons (λ j. (wide_at s.layout ≤ j.wide) × (j.wide + j.len < wide_at s.layout + most)) (job_after s used words o) (jobs_after s (begins_after used o.len + o.len + 1) (words + o.len + 1) rest)
+      (omega (arith, wide_is used words o), omega (arith, wide_is used words o, room))
+      (wide_within most (begins_after used o.len + o.len + 1) (words + o.len + 1) rest room)
+
   wide_after : (low used words : ℕ) (objects : List ObjectRow) → low ≤ words → All (λ k. wide_at s.layout + low ≤ k.wide) (jobs_after s used words objects)
   wide_after low used words [] after = All-nil (λ k. wide_at s.layout + low ≤ k.wide)
   wide_after low used words (o ∷ rest) after =
@@ -61,17 +79,28 @@ module _ (s : Space) (stopless : is_stopless s.kind ≡ true) where
       (omega (arith, wide_is used words o))
       (wide_after low (begins_after used o.len + o.len + 1) (words + o.len + 1) rest (omega arith))
 
-  -- so do wide objects in the wide area
-  pub wide_apart : (used words : ℕ) (objects : List ObjectRow) → words + words_of objects ≤ s.wide_free → AreWideApart s (jobs_after s used words objects)
-  wide_apart used words [] fits = record { begin = All-nil (λ j. wide_at s.layout ≤ j.wide); end = All-nil (λ j. j.wide + j.len < wide_at s.layout + s.wide_free); apart = λ i j d before below. absurd (omega arith) }
-  wide_apart used words (o ∷ rest) fits =
-      let room : words + o.len + 1 + words_of rest ≤ s.wide_free = omega (arith, fits, words_of-cons o rest) in
-      let others : AreWideApart s (jobs_after s (begins_after used o.len + o.len + 1) (words + o.len + 1) rest) = wide_apart (begins_after used o.len + o.len + 1) (words + o.len + 1) rest room in
-      record {
-        begin = All-cons (λ j. wide_at s.layout ≤ j.wide) (job_after s used words o) (jobs_after s (begins_after used o.len + o.len + 1) (words + o.len + 1) rest) (omega (arith, wide_is used words o)) others.begin;
-        end = All-cons (λ j. j.wide + j.len < wide_at s.layout + s.wide_free) (job_after s used words o) (jobs_after s (begins_after used o.len + o.len + 1) (words + o.len + 1) rest) (omega (arith, wide_is used words o, room)) others.end;
-        apart = AllPairs-cons (λ j k. j.wide + j.len < k.wide) (job_after s used words o) (jobs_after s (begins_after used o.len + o.len + 1) (words + o.len + 1) rest) (All-weaker (λ k. wide_at s.layout + (words + o.len + 1) ≤ k.wide) (λ k. (job_after s used words o).wide + o.len < k.wide) (λ k h. omega (arith, h, wide_is used words o)) (jobs_after s (begins_after used o.len + o.len + 1) (words + o.len + 1) rest) (wide_after (words + o.len + 1) (begins_after used o.len + o.len + 1) (words + o.len + 1) rest (omega arith))) others.apart;
-      }
+  -- and none overlaps another
+  pub wide_apart : (used words : ℕ) (objects : List ObjectRow) → AllPairs (λ j k. j.wide + j.len < k.wide) (jobs_after s used words objects)
+  wide_apart used words [] = λ i j d before below. absurd (omega arith)
+  wide_apart used words (o ∷ rest) =
+      let later : List MoveJob = jobs_after s (begins_after used o.len + o.len + 1) (words + o.len + 1) rest in
+      AllPairs-cons (λ j k. j.wide + j.len < k.wide) (job_after s used words o) (jobs_after s (begins_after used o.len + o.len + 1) (words + o.len + 1) rest)
+      (All-weaker (λ k. wide_at s.layout + (words + o.len + 1) ≤ k.wide) (λ k. (job_after s used words o).wide + o.len < k.wide) (λ k h. omega (arith, h, wide_is used words o)) (jobs_after s (begins_after used o.len + o.len + 1) (words + o.len + 1) rest) (wide_after (words + o.len + 1) (begins_after used o.len + o.len + 1) (words + o.len + 1) rest (omega arith)))
+      (wide_apart (begins_after used o.len + o.len + 1) (words + o.len + 1) rest)
+
+-- without them there are none
+pub wide_none : (s : Space) → is_stopless s.kind ≡ false → (used words : ℕ) (objects : List ObjectRow) → All (λ j. j.wide ≡ 0) (jobs_after s used words objects)
+wide_none s other used words [] = All-nil (λ j. j.wide ≡ 0)
+wide_none s other used words (o ∷ rest) =
+    All-cons (λ j. j.wide ≡ 0) (job_after s used words o) (jobs_after s (begins_after used o.len + o.len + 1) (words + o.len + 1) rest)
+    (rw other refl) (wide_none s other (begins_after used o.len + o.len + 1) (words + o.len + 1) rest)
+
+-- jobs take as many words as their objects
+pub jobs_words : (s : Space) (used words : ℕ) (objects : List ObjectRow) → sum_by (λ j. j.len + 1) (jobs_after s used words objects) ≡ words_of objects
+jobs_words s used words [] = refl
+jobs_words s used words (o ∷ rest) =
+    sum_by-cons (λ j. j.len + 1) (job_after s used words o) (jobs_after s (begins_after used o.len + o.len + 1) (words + o.len + 1) rest)
+    ∙ (ap (λ n. o.len + 1 + n) (jobs_words s (begins_after used o.len + o.len + 1) (words + o.len + 1) rest) ∙ sym (words_of-cons o rest))
 
 -- each object has a job, in order
 pub jobs-move : (s : Space) (used words : ℕ) (objects : List ObjectRow) → AllZip Moves objects (jobs_after s used words objects)

@@ -16,14 +16,14 @@ filter_every : {X : Type 0} (p : X → Bool) (xs : List X) → All (λ x. p x �
 filter_every p [] h = refl
 filter_every p (x ∷ xs) h = rw (All-head (λ x. p x ≡ true) x xs h) (ap (λ rest. x ∷ rest) (filter_every p xs (All-tail (λ x. p x ≡ true) x xs h)))
 
-filter_nothing : {X : Type 0} (p : X → Bool) (xs : List X) → All (λ x. p x ≡ false) xs → filter p xs ≡ []
+pub filter_nothing : {X : Type 0} (p : X → Bool) (xs : List X) → All (λ x. p x ≡ false) xs → filter p xs ≡ []
 filter_nothing p [] h = refl
 filter_nothing p (x ∷ xs) h = rw (All-head (λ x. p x ≡ false) x xs h) (filter_nothing p xs (All-tail (λ x. p x ≡ false) x xs h))
 
-equal_test : (a b : ℕ) → a ≡ b → (a == b) ≡ true
+pub equal_test : (a b : ℕ) → a ≡ b → (a == b) ≡ true
 equal_test a b e = grind (arith, nat_tests)
 
-unequal_test : (a b : ℕ) → a ≢ b → (a == b) ≡ false
+pub unequal_test : (a b : ℕ) → a ≢ b → (a == b) ≡ false
 unequal_test a b e = grind (arith, nat_tests)
 
 -- of two objects the later lies in no earlier region

@@ -4,14 +4,15 @@ use Rattle.std.specs.List.{All}
 use Rattle.std.proofs.Math.Seq.{drop-cons}
 use Rattle.std.proofs.lemmas.Bool.Decides.{nat_tests}
 use Rattle.object_headers.specs.Changes.{is_stopless}
-use Rattle.std.proofs.lemmas.List.{append-nil}
+use Rattle.std.proofs.lemmas.List.{append-nil, drop_all, length-take-le}
 use Rattle.std.proofs.lemmas.List.Elements.{All-head, All-tail, All-take, All-weaker}
 use Rattle.std.proofs.lemmas.Grind.{flat_map-append}
+use Rattle.heap_words.specs.Layouts.{Sizes}
 use Rattle.space_reclaim.specs.declared.plan.RegionLive.{RegionLive}
 use Rattle.space_reclaim.specs.declared.plan.ObjectRow.{ObjectRow}
 use Rattle.space_reclaim.specs.declared.move_job.MoveJob.{MoveJob}
 use Rattle.space_reclaim.specs.declared.space.Used.{Used}
-use Rattle.space_reclaim.specs.Plans.{Space, IsFound, IsLying, words_of, objects_in, objects_in_all, strip_after, jobs_after, has_room, is_chosen, chosen_after}
+use Rattle.space_reclaim.specs.Plans.{Space, IsFound, IsLying, words_of, objects_in, objects_in_all, strip_after, jobs_after, has_room, is_chosen, regions_begun, chosen_after, plan_with, plan_of}
 use Rattle.space_reclaim.proofs.plans.Rising.{pairs-head}
 use Rattle.space_reclaim.proofs.plans.Strip.{words_of-append, length-le-words_of, length-jobs_after, strip_after-append, strip_after-least, jobs_after-append}
 use Rattle.space_reclaim.proofs.plans.Found.{front, own_is, later_is, found_after}
@@ -57,6 +58,23 @@ pub planned_at : {s : Space} {rows : List RegionLive} {objects : List ObjectRow}
 planned_at {s} {rows} {objects} {rest} {chosen} {jobs} {strip} {words} i d p below =
     let P : List RegionLive → Type 0 = λ left. IsPlannedTo s rows objects left rest chosen jobs strip words in
     subst P (drop-cons rows i d below ∙ ap (λ k. get_or rows i d ∷ drop k rows) (sym (add-one i))) p
+
+-- after the last row the plan is made
+pub planned_is : {s : Space} {rows : List RegionLive} {objects : List ObjectRow} {rest : List ObjectRow} {chosen : List ℕ} {jobs : List MoveJob} {strip words : ℕ} (i : ℕ) (l : Sizes) (targets : List ℕ) (wide : ℕ) → IsPlannedTo s rows objects (drop i rows) rest chosen jobs strip words → length rows ≤ i
+    → l ≡ s.layout → targets ≡ take (regions_begun strip) s.pool_free → wide ≡ (if is_stopless s.kind then words else 0)
+    → record { layout = l; chosen = chosen; targets = targets; jobs = jobs; wide_words = wide } ≡ plan_of s rows objects
+planned_is {s} {rows} {objects} {rest} {chosen} {jobs} {strip} {words} i l targets wide p past layout into width =
+    let over : drop i rows ≡ [] = drop_all i rows past in
+    let all : chosen ≡ chosen_after s objects [] rows = ap (chosen_after s objects chosen) (sym over) ∙ p.plan in
+    let made : record { layout = l; chosen = chosen; targets = targets; jobs = jobs; wide_words = wide } ≡ plan_with s objects chosen = rw (layout, into, width, p.laid, p.used, p.taken) refl in
+    made ∙ ap (plan_with s objects) all
+
+-- there are no more regions begun than free ones
+pub begun_few : (used : ℕ) (pool : List ℕ) → used ≤ 64 * length pool → length (take (regions_begun used) pool) ≤ length pool
+begun_few used pool room =
+    let few : regions_begun used ≤ length pool = omega (arith, room) in
+    let long : length (take (regions_begun used) pool) ≡ regions_begun used = length-take-le (regions_begun used) pool few in
+    omega (arith, few, long)
 
 passed_when : {X : Type 0} (b : Bool) (x : X) → (if b then Some x else None) ≡ None → b ≡ false
 passed_when true x e = cc

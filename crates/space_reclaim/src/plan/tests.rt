@@ -52,23 +52,54 @@ fn moves_two_objects(rt: HostRuntime) -> Result<(), Fail> {
     assert_eq!(rt; plan.chosen(), [0, 8].as_slice());
     let wide = [job(1, 24, 88, 792, 8), job(524_289, 536, 97, 801, 2)];
     assert_eq!(rt; plan.jobs(), wide.as_slice());
+    assert_eq!(rt; plan.targets(), [1].as_slice());
+    assert_eq!(rt; plan.wide_words(), 12);
     plan.fill(&rows, &objects, &[1, 2, 3], 0, Kind::Chicken);
+    assert_eq!(rt; plan.wide_words(), 0);
     let plain = [job(1, 24, 88, 0, 8), job(524_289, 536, 97, 0, 2)];
     assert_eq!(rt; plan.jobs(), plain.as_slice());
     Ok(())
 }
 
-// With one free region of the pool nine words and five fit it.
+// Of 1 pass with 2 own regions and 2 in the pool region 0 begins at 16. The objects of region 2 are dead in the first
+// cycle; in the second one it has a new one, and so has region 3, which is nearly full.
 #[test]
-fn empties_two_regions_into_one(rt: HostRuntime) -> Result<(), Fail> {
-    let layout = Layout::new(1, 1, 3, 0)?;
+fn empties_what_was_emptied_before(rt: HostRuntime) -> Result<(), Fail> {
+    let layout = Layout::new(1, 2, 2, 1)?;
     let mut plan = Plan::with_room(rt.alloc(), &layout)?;
-    let rows = [row(0, 9), row(2, 5)];
-    let objects = [object(0, 1, 16, 8), object(2, 524_289, 144, 4)];
-    plan.fill(&rows, &objects, &[1], 0, Kind::Clover);
+    let rows = [row(0, 9), row(2, 0)];
+    plan.fill(&rows, &[object(0, 1, 16, 8)], &[1], 1, Kind::Clover);
     assert_eq!(rt; plan.chosen(), [0, 2].as_slice());
-    let jobs = [job(1, 16, 80, 0, 8), job(524_289, 144, 89, 0, 4)];
+    assert_eq!(rt; plan.jobs(), [job(1, 16, 80, 0, 8)].as_slice());
+    let rows = [row(1, 9), row(2, 31), row(3, 62)];
+    let objects = [
+        object(1, 1, 80, 8),
+        object(2, 524_293, 144, 30),
+        object(3, 524_291, 208, 30),
+        object(3, 524_292, 239, 30),
+    ];
+    plan.fill(&rows, &objects, &[0], 1, Kind::Clover);
+    assert_eq!(rt; plan.chosen(), [1, 2].as_slice());
+    let jobs = [job(1, 80, 16, 0, 8), job(524_293, 144, 25, 0, 30)];
     assert_eq!(rt; plan.jobs(), jobs.as_slice());
+    Ok(())
+}
+
+// A region of 64 live words stays as it is.
+#[test]
+fn passes_over_a_full_region(rt: HostRuntime) -> Result<(), Fail> {
+    let layout = Layout::new(1, 1, 2, 0)?;
+    let mut plan = Plan::with_room(rt.alloc(), &layout)?;
+    let rows = [row(0, 9), row(2, 64)];
+    let objects = [
+        object(0, 1, 15, 8),
+        object(2, 524_289, 143, 30),
+        object(2, 524_290, 174, 30),
+        object(2, 524_291, 205, 1),
+    ];
+    plan.fill(&rows, &objects, &[1], 0, Kind::Chicken);
+    assert_eq!(rt; plan.chosen(), [0].as_slice());
+    assert_eq!(rt; plan.jobs(), [job(1, 15, 79, 0, 8)].as_slice());
     Ok(())
 }
 
@@ -137,5 +168,6 @@ fn begins_a_region_for_what_does_not_fit(rt: HostRuntime) -> Result<(), Fail> {
         job(524_291, 338, 146, 0, 30),
     ];
     assert_eq!(rt; plan.jobs(), jobs.as_slice());
+    assert_eq!(rt; plan.targets(), [0, 2].as_slice());
     Ok(())
 }
