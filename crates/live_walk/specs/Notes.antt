@@ -5,7 +5,8 @@ use Rattle.space_reclaim.specs.declared.plan.RegionLive.{RegionLive}
 use Rattle.space_reclaim.specs.declared.plan.ObjectRow.{ObjectRow}
 use Rattle.live_walk.specs.declared.note.Finding.{Finding}
 
--- the regions that were Filled with the words of their live objects, these objects, and the free regions of the pool; and the layout for which there is room
+-- the regions that were Filled with the words of their live objects, these objects, and the free regions of the pool;
+-- and the layout for which there is room
 pub record Notes : Type 0 where
   pub layout : Sizes
   pub live : List RegionLive
@@ -30,7 +31,7 @@ noted_with n f = record {
   pool_free = with_one n.pool_free f.free;
 }
 
--- what holds of the layout and of the reserved rooms: a row for each region, 64 objects in each, and the regions of the pool
+-- what holds of the layout and of the reserved rooms: a row for each region, 64 objects in each, the regions of the pool
 pub record IsRoomy (l : Sizes) (live_room object_room pool_room : ℕ) : Type 0 where
   pub layout : IsLayout l
   pub live : regions_of l ≤ live_room

@@ -23,14 +23,17 @@ word_in l words region offset = slice_index words (first_word l region + offset)
 -- the object that begins there, if it is live
 abbrev pub live_at : Sizes → List ℕ → ℕ → ℕ → List ObjectRow
 live_at l words region offset =
-    if is_live_at offset (word_in l words region offset) then row_at (walk_of l) region offset (word_in l words region offset) ∷ [] else []
+    if is_live_at offset (word_in l words region offset)
+    then row_at (walk_of l) region offset (word_in l words region offset) ∷ []
+    else []
 
--- the live objects among those of a region that stand one after another from there on, of which there are at most so many
+-- the live objects among those of a region that stand one after another from there on, which are at most so many
 unfoldable pub live_from : Sizes → List ℕ → ℕ → ℕ → ℕ → List ObjectRow
 live_from l words region zero offset = []
 live_from l words region (suc n) offset =
     if begins offset (word_in l words region offset)
-    then live_at l words region offset ++ live_from l words region n (offset_after offset (word_in l words region offset))
+    then live_at l words region offset
+    ++ live_from l words region n (offset_after offset (word_in l words region offset))
     else []
 
 -- the live objects of a region, which are no more than its words
@@ -73,4 +76,6 @@ noting_fed n word = record { machine = fed_of n.machine word; notes = noted_with
 
 -- alone on words it notes exactly what they have
 abbrev pub NotesWhatIsLive : Sizes → Type 0
-NotesWhatIsLive l = (words left : List ℕ) (n : Noting) → RunsAlone noting_asks noting_fed (noting l, words) (n, left) → noting_asks n ≡ Ended → n.notes ≡ notes_of l words
+NotesWhatIsLive l =
+    (words left : List ℕ) (n : Noting) → RunsAlone noting_asks noting_fed (noting l, words) (n, left)
+    → noting_asks n ≡ Ended → n.notes ≡ notes_of l words

@@ -65,7 +65,8 @@ goes_on offset word = begins offset word && nat_lt (offset_after offset word) RE
 
 -- how many words the live objects take with the one that begins here
 abbrev pub counted : ℕ → ℕ → ℕ → ℕ
-counted offset word live = let h = header_at word in if is_live_at offset word then min live REGION_WORDS + h.len + 1 else live
+counted offset word live =
+    let h = header_at word in if is_live_at offset word then min live REGION_WORDS + h.len + 1 else live
 
 -- in a region that was Filled
 abbrev pub counted_in : ℕ → ℕ → Option ℕ → Option ℕ
@@ -81,7 +82,14 @@ next_region w region = if nat_lt (region + 1) w.regions then note.Region w (regi
 -- with a word at hand where a header may stand
 abbrev pub with_header : Walk → ℕ → ℕ → Option ℕ → ℕ → NoteMachine
 with_header w region offset live word =
-    if goes_on offset word then note.Header w region (offset_after offset word) (counted_in offset word live) else next_region w region
+    if goes_on offset word
+    then note.Header w region (offset_after offset word) (counted_in offset word live)
+    else next_region w region
+
+-- with the word of a region at hand: that of a Free region is 0, and that of a Filled one is 2
+abbrev pub with_region : Walk → ℕ → ℕ → NoteMachine
+with_region w region word =
+    if word == 0 then next_region w region else note.Header w region 0 (if word == 2 then Some 0 else None)
 
 -- as it begins
 abbrev pub begun : Sizes → NoteMachine
@@ -93,9 +101,9 @@ asks_of (note.Region w region) = Load (word_of w region)
 asks_of (note.Header w region offset live) = Load (address w region offset)
 asks_of (note.Ended w) = Ended
 
--- what it is after it was fed a word; the word of a Free region is 0, and that of a Filled one is 2
+-- what it is after it was fed a word
 abbrev pub fed_of : NoteMachine → ℕ → NoteMachine
-fed_of (note.Region w region) found = if found == 0 then next_region w region else note.Header w region 0 (if found == 2 then Some 0 else None)
+fed_of (note.Region w region) found = with_region w region found
 fed_of (note.Header w region offset live) found = with_header w region offset live found
 fed_of (note.Ended w) found = note.Ended w
 
@@ -108,7 +116,9 @@ blind_of (note.Ended w) at put n e = refl
 
 -- the row of the live object that begins at this word of a region
 abbrev pub row_at : Walk → ℕ → ℕ → ℕ → ObjectRow
-row_at w region offset word = let h = header_at word in record { region = region; birth = h.birth; at = address w region offset; len = h.len; header = word }
+row_at w region offset word =
+    let h = header_at word in
+    record { region = region; birth = h.birth; at = address w region offset; len = h.len; header = word }
 
 -- if one does
 abbrev pub object_at : Walk → ℕ → ℕ → ℕ → Option ObjectRow
@@ -116,14 +126,23 @@ object_at w region offset word = if is_live_at offset word then Some (row_at w r
 
 -- the row of a region that ends with this word
 abbrev pub region_at_end : ℕ → ℕ → ℕ → ℕ → Option RegionLive
-region_at_end region offset live word = if goes_on offset word then None else Some (record { region = region; words = counted offset word live })
+region_at_end region offset live word =
+    if goes_on offset word then None else Some (record { region = region; words = counted offset word live })
+
+-- a region of the pool, if its word is that of a Free one
+abbrev pub free_at : Walk → ℕ → ℕ → Option ℕ
+free_at w region word = if (word == 0) && nat_lt region w.pool then Some region else None
+
+abbrev pub tells : Option ℕ → Option ObjectRow → Option RegionLive → Finding
+tells free object region = record { free = free; object = object; region = region }
 
 -- with the word found: a region of the pool that is Free; in a Filled region a live object, and at its end the region
 abbrev pub finding_of : NoteMachine → ℕ → Finding
-finding_of (note.Region w region) found = record { free = (if (found == 0) && nat_lt region w.pool then Some region else None); object = None; region = None }
-finding_of (note.Header w region offset (Some live)) found = record { free = None; object = object_at w region offset found; region = region_at_end region offset live found }
-finding_of (note.Header w region offset None) found = record { free = None; object = None; region = None }
-finding_of (note.Ended w) found = record { free = None; object = None; region = None }
+finding_of (note.Region w region) found = tells (free_at w region found) None None
+finding_of (note.Header w region offset (Some live)) found =
+    tells None (object_at w region offset found) (region_at_end region offset live found)
+finding_of (note.Header w region offset None) found = tells None None None
+finding_of (note.Ended w) found = tells None None None
 
 -- ---- how many steps are left
 
@@ -147,15 +166,20 @@ some_left (note.Region w region) e = absurd (omega arith)
 some_left (note.Header w region offset live) e = absurd (omega arith)
 some_left (note.Ended w) e = refl
 
-region_falls : (w : Walk) (region : ℕ) (b : Bool) → nat_lt (region + 1) w.regions ≡ b → left_of (if b then note.Region w (region + 1) else note.Ended w) ≤ 65 * regions_after w region
+region_falls : (w : Walk) (region : ℕ) (b : Bool) → nat_lt (region + 1) w.regions ≡ b
+    → left_of (if b then note.Region w (region + 1) else note.Ended w) ≤ 65 * regions_after w region
 region_falls w region true e = let more : region + 1 < w.regions = grind (arith, nat_tests, e) in omega (arith, more)
 region_falls w region false e = omega arith
 
-free_falls : (w : Walk) (region : ℕ) (live : Option ℕ) (b : Bool) → left_of (if b then next_region w region else note.Header w region 0 live) < 65 * regions_after w region + 65
+free_falls : (w : Walk) (region : ℕ) (live : Option ℕ) (b : Bool)
+    → left_of (if b then next_region w region else note.Header w region 0 live) < 65 * regions_after w region + 65
 free_falls w region live true = let next = region_falls w region (nat_lt (region + 1) w.regions) refl in omega (arith, next)
 free_falls w region live false = omega arith
 
-header_falls : (w : Walk) (region offset next : ℕ) (live : Option ℕ) (fits b : Bool) → offset < next → (fits && nat_lt next REGION_WORDS) ≡ b → left_of (if b then note.Header w region next live else next_region w region) < 65 * regions_after w region + 1 + (63 - offset)
+header_falls : (w : Walk) (region offset next : ℕ) (live : Option ℕ) (fits b : Bool) → offset < next
+    → (fits && nat_lt next REGION_WORDS) ≡ b
+    → left_of (if b then note.Header w region next live else next_region w region)
+    < 65 * regions_after w region + 1 + (63 - offset)
 header_falls w region offset next live fits true rises e = let less : next < 64 = grind (arith, nat_tests, e) in omega (arith, less)
 header_falls w region offset next live fits false rises e = let after = region_falls w region (nat_lt (region + 1) w.regions) refl in omega (arith, after)
 

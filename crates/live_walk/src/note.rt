@@ -1,10 +1,10 @@
 //! The walk over all regions, and what each of its steps tells.
 
-ghost use Rattle.std.specs.Prelude.{◌≡◌, ◌≢◌, ◌*◌, ◌^◌, ◌<◌, ◌≤◌, ◌↔◌, IsSome, Some, None, if◌then◌else◌};
+ghost use Rattle.std.specs.Prelude.{◌≡◌, ◌≢◌, ◌*◌, ◌^◌, ◌<◌, ◌≤◌, ◌↔◌, IsSome, IfSome, Some, None, if◌then◌else◌};
 ghost use Rattle.heap_words.specs.Layouts.{regions_of};
 ghost use Rattle.heap_words.specs.declared.limits.TheConstants.{ADDRESS_LIMIT, MOST_FIELDS};
 ghost use Rattle.object_headers.specs.Headers.{header_at};
-ghost use Rattle.call_steps.specs.declared.step.Step.TheVariants.{Ended as StepEnded};
+ghost use Rattle.call_steps.specs.declared.step.Step.TheVariants.{Load, Ended as StepEnded};
 ghost use Rattle.live_walk.specs.Walks as walks;
 ghost use Rattle.live_walk.specs.Passing.{PassesBelow};
 ghost use Rattle.live_walk.specs.StillWords.{NotesWhatIsLive};
@@ -192,7 +192,10 @@ impl NoteMachine {
 
     /// What its next step tells, where it finds this word.
     pub fn finding(&self, found: u64) -> Finding
-        ensures { result ≡ walks.finding_of self.now found }
+        ensures value { result ≡ walks.finding_of self.now found }
+
+        // An object that it tells of has the header that the step finds, at the address that it loads.
+        ensures object { IfSome result.object (λ o. (walks.asks_of self.now ≡ Load o.at) × (o.header ≡ found)) }
     {
         match *self {
             NoteMachine::Region { walk, region } => Finding {

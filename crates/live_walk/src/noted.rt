@@ -1,7 +1,9 @@
 //! What a walk has noted, and the room for it.
 
-ghost use Rattle.std.specs.Prelude.{◌≡◌, ◌≢◌, IfOk};
+ghost use Rattle.std.specs.Prelude.{◌≡◌, ◌≢◌, ◌<◌, vec_len, vec_capacity, IfOk};
+ghost use Rattle.std.specs.Option.{ForSome};
 ghost use Rattle.call_steps.specs.declared.step.Step.TheVariants.{Ended as StepEnded};
+ghost use Rattle.live_walk.specs.Notes.{with_one};
 ghost use Rattle.live_walk.specs.Walks.{begun, asks_of, fed_of, finding_of};
 
 use crate::note::NoteMachine;
@@ -31,9 +33,20 @@ impl Model for Noted {
     ghost invariant = { λ n. IsRoomy n.layout (vec_capacity n.live) (vec_capacity n.objects) (vec_capacity n.pool_free) };
 }
 
+/// Adds an item, if there is one. There is room for it.
+fn push_one<T: Copy>(list: &mut Vec<T>, item: Option<T>)
+    requires { ForSome item (λ _. vec_len list.old < vec_capacity list.old) }
+    ensures items { list.new.items ≡ with_one list.old.items item }
+    ensures room { vec_capacity list.new ≡ vec_capacity list.old }
+{
+    if let Some(item) = item {
+        list.push_reserved(item);
+    }
+}
+
 impl Noted {
     ghost use Rattle.live_walk.specs.Notes.{nothing_noted, noted_with};
-    ghost use Rattle.live_walk.specs.Noting.{IsNoting};
+    ghost use Rattle.live_walk.specs.Noting.{IsNoting, CanBePlanned};
 
     /// Nothing, with room for all that the layout can have: a row for each region, 64 objects in each, and the
     /// regions of the pool.
@@ -93,16 +106,13 @@ impl Noted {
         // Whatever words it finds: the regions and objects that are noted rise, each object lies in its region, each
         // region has the words of its objects, and the free regions of the pool rise.
         ensures kept { IsNoting (fed_of machine.now found) self.new }
+
+        // So once the walk has ended, a plan can be made from it.
+        ensures planned { asks_of (fed_of machine.now found) ≡ StepEnded → CanBePlanned self.new }
     {
         let finding = machine.finding(found);
-        if let Some(region) = finding.free {
-            self.pool_free.push_reserved(region);
-        }
-        if let Some(object) = finding.object {
-            self.objects.push_reserved(object);
-        }
-        if let Some(region) = finding.region {
-            self.live.push_reserved(region);
-        }
+        push_one(&mut self.pool_free, finding.free);
+        push_one(&mut self.objects, finding.object);
+        push_one(&mut self.live, finding.region);
     }
 }

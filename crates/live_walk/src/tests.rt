@@ -1,5 +1,7 @@
 //! Walks over words put by hand.
 
+ghost use Rattle.std.specs.Prelude.{◌≡◌};
+
 use super::*;
 use call_steps::{Machine, OutOfMemory, PlainWords, Step};
 use heap_words::Layout;
@@ -24,7 +26,9 @@ fn regions(
 }
 
 // Walks the words to the end, and gives the number of steps.
-fn walk(rt: &impl Abort, words: &mut PlainWords, layout: &Layout, noted: &mut Noted) -> u32 {
+fn walk(rt: &impl Abort, words: &mut PlainWords, layout: &Layout, noted: &mut Noted) -> u32
+    requires { noted.old.layout ≡ layout.now }
+{
     let mut machine = NoteMachine::new(layout);
     noted.clear();
     for steps in 0..200 {
