@@ -5,6 +5,7 @@ pub mod Heads
 pub mod Holding
 pub mod Making
 pub mod NewTurns
+pub mod Ordering
 pub mod OwnTurns
 pub mod PollTurns
 pub mod Polling

@@ -37,7 +37,7 @@ use Rattle.lawful_records.specs.Collectors.{drawn_of, AreEarlier}
 use Rattle.lawful_records.specs.Cycling.{announced_by, cycle_of}
 use Rattle.lawful_records.specs.JobStands.{stand_of, IsMovedBy, StandsAt}
 use Rattle.lawful_records.specs.Searches.{SearchStands}
-use Rattle.lawful_records.specs.Making.{IsRoom, IsMaking, has_room}
+use Rattle.lawful_records.specs.Making.{IsRoom, IsMaking, has_room, lens_of}
 use Rattle.lawful_records.specs.Records.{registers_by, room_by, made_by as made_count, number_of, acked_of, mark_of, side_of, seen_of}
 use Rattle.lawful_records.specs.Beginnings.{call_ended}
 use Rattle.lawful_records.specs.Meetings.{HasMet}
@@ -114,7 +114,7 @@ module _ {R W E M : Type 0} (kit : Kit R W E M) where
   IsMachine l c s n p machine.Idle = Unit {0}
   IsMachine l c s n p machine.Retired = AreStored n (number_of p) p.pass.registers 8
   IsMachine l c s n p (machine.Poll m) = IsPollIn s (record { view = p.pass.view; registers = p.pass.registers; announced = n.phase; mark = n.mark }) m
-  IsMachine l c s n p (machine.New m) = IsMaking l s (number_of p) p.pass.room p.pass.made m
+  IsMachine l c s n p (machine.New m) = IsMaking l s (number_of p) p.pass.room p.pass.made (lens_of p.mine) m
   IsMachine l c s n p (machine.Read m) = IsCall kit.protocol c s (side_of kit p) (kit.reads m) × kit.ReadsFor p.pass.view m × (task_of (kit.reads m) ≡ Reads)
   IsMachine l c s n p (machine.Write m) = IsCall kit.protocol c s (side_of kit p) (kit.writes m) × kit.WritesFor p.pass.view m × IsWriting (task_of (kit.writes m))
   IsMachine l c s n p (machine.Exchange m) = IsCall kit.protocol c s (side_of kit p) (kit.exchanges m) × kit.ExchangesFor p.pass.view m × IsExchanging (task_of (kit.exchanges m))
@@ -149,7 +149,7 @@ module _ {R W E M : Type 0} (kit : Kit R W E M) where
     pub shaken : acked_of p ≢ retired_word → Handshaken c (side_of kit p)
     pub eight : length (registers_by p.pass.machine p.pass.registers) ≡ 8
     pub registers : (i : ℕ) → IsGood s (held_in (registers_by p.pass.machine p.pass.registers) i)
-    pub room : has_room p.pass.machine ≡ true → IsRoom l s (number_of p) (room_by p.pass.machine p.pass.room)
+    pub room : has_room p.pass.machine ≡ true → IsRoom l s (number_of p) (room_by p.pass.machine p.pass.room) (lens_of p.mine)
     pub few : made_count p.pass.machine p.pass.made ≤ 262144
     pub unborn : IsUnborn s.history (number_of p) (made_count p.pass.machine p.pass.made)
     pub machine : IsMachine l c s n p p.pass.machine

@@ -1,10 +1,15 @@
 -- Where a pass makes its objects, and where the making of one stands.
-use Rattle.std.specs.Prelude.{◌≡◌, ◌≢◌, ℕ, ◌+◌, ◌<◌, ◌≤◌, Bool, true, false, Option, Some, None}
+use Rattle.std.specs.Prelude.{◌≡◌, ◌≢◌, ℕ, zero, suc, ◌+◌, ◌<◌, ◌≤◌, Bool, true, false, List, [], ◌∷◌, ◌++◌, Option, Some, None, IsSome}
 use Rattle.std.specs.Option.{ForSome}
 use Rattle.heap_words.specs.Layouts.{Sizes, region_at, first_word}
+use Rattle.heap_words.specs.Packing.{fits_behind, packing}
+use Rattle.heap_words.specs.declared.limits.TheConstants.{REGION_WORDS}
+use Rattle.heap_history.specs.declared.call.Call.{Call}
+use Rattle.heap_history.specs.declared.call.Call.TheVariants as calls
 use Rattle.space_reclaim.specs.declared.claim.Round.{Round}
 use Rattle.space_reclaim.specs.declared.region_word.RegionWord.TheVariants.{Free, Taken}
 use Rattle.space_reclaim.specs.RegionWords.{word_of_region}
+use Rattle.space_reclaim.specs.NextFit.{used_after_all}
 use Rattle.space_reclaim.specs.OwnRegions.{IsOwn, first_own, last_own}
 use Rattle.handshakes.specs.declared.retire.RetireMachine.TheVariants as retire
 use Rattle.barriers.specs.declared.room.Room.{Room}
@@ -19,6 +24,31 @@ use Rattle.barriers.specs.declared.pass.PassMachine.TheVariants as machine
 use Rattle.barriers.specs.NewObjects.{plan_of, placed, next_birth}
 use Rattle.barriers.specs.Spaces.{Space, Holds}
 
+-- ---- the order of its regions
+
+-- the lens of the objects that changes made, in the order in which they were made; the changes are given the newest first
+abbrev pub lens_of : List Call → List ℕ
+lens_of [] = []
+lens_of (calls.NewObject pass birth len ∷ h) = lens_of h ++ len ∷ []
+lens_of (c ∷ h) = lens_of h
+
+-- the last of so many of a pass's own regions, from the first one on
+abbrev pub own_last : Sizes → ℕ → ℕ → Option ℕ
+own_last l pass zero = None
+own_last l pass (suc k) = Some (first_own l pass + k)
+
+-- It has claimed as many of its own regions, one after the other, as objects of these lens need that are laid one after another; it makes objects
+-- in the last of them, after the words that those use there; and the regions after it are free.
+pub record FollowsPacking (l : Sizes) (s : Space) (pass : ℕ) (room : Room) (lens : List ℕ) : Type 0 where
+  pub region : room.region ≡ own_last l pass (packing lens)
+  pub last : room.last ≡ own_last l pass (packing lens)
+  pub used : IsSome room.region → room.used ≡ used_after_all REGION_WORDS lens
+  pub free : (region : ℕ) → IsOwn l pass region → first_own l pass + packing lens ≤ region → s.region region ≡ Free
+
+-- as long as they need no more regions than it has
+abbrev pub IsInOrder : Sizes → Space → ℕ → Room → List ℕ → Type 0
+IsInOrder l s pass room lens = packing lens ≤ l.quota → FollowsPacking l s pass room lens
+
 -- ---- the room
 
 -- the objects of the region end where the room says, and the region is the pass's
@@ -32,12 +62,12 @@ abbrev pub IsRoomIn : Sizes → Space → ℕ → Option ℕ → ℕ → Type 0
 IsRoomIn l s pass None used = Unit {0}
 IsRoomIn l s pass (Some region) used = IsRegionOf l s pass region used
 
-pub record IsRoom (l : Sizes) (s : Space) (pass : ℕ) (room : Room) : Type 0 where
+-- the room of a pass that has made objects of these lens
+pub record IsRoom (l : Sizes) (s : Space) (pass : ℕ) (room : Room) (lens : List ℕ) : Type 0 where
   pub region : IsRoomIn l s pass room.region room.used
   pub used : room.used ≤ 64
   pub last : ForSome room.last (IsOwn l pass)
-  -- before it has claimed any region its own are all free
-  pub free : room.region ≡ None → (region : ℕ) → IsOwn l pass region → s.region region ≡ Free
+  pub order : IsInOrder l s pass room lens
 
 -- its room is what the record says: not while an object is placed, and no more once the region is left for good
 abbrev pub has_room : {R W E : Type 0} → PassMachine R W E → Bool
@@ -60,16 +90,19 @@ pub record IsRound (l : Sizes) (pass : ℕ) (r : Round) : Type 0 where
   pub last_at : r.last_at ≡ region_at l (last_own l pass)
   pub taken : r.taken ≡ word_of_region (Taken pass)
 
--- a region is claimed for an object of so many fields
-pub record IsClaiming (l : Sizes) (pass : ℕ) (room : Room) (made : ℕ) (plan : NewPlan) (round : Round) : Type 0 where
+-- A region is claimed for an object of so many fields, which does not fit after those made so far; as long as these need fewer regions than the pass
+-- has, the claim is at the next one.
+pub record IsClaiming (l : Sizes) (pass : ℕ) (room : Room) (made : ℕ) (lens : List ℕ) (plan : NewPlan) (round : Round) : Type 0 where
   pub len : ℕ
   pub short : len ≤ 30
   pub few : made < 262144
   pub plan_is : plan ≡ plan_of l pass made len room.region
   pub round_is : IsRound l pass round
+  pub full : packing lens ≤ l.quota → fits_behind (used_after_all REGION_WORDS lens) len ≡ false
+  pub next : packing lens < l.quota → (let r = round_is in r.region) ≡ first_own l pass + packing lens
 
--- the object is placed after the others of a region of the pass's
-pub record IsPlaced (l : Sizes) (s : Space) (pass made : ℕ) (placement : Placement) : Type 0 where
+-- the object is placed after the others of a region of the pass's, which is the one that packing has it in
+pub record IsPlaced (l : Sizes) (s : Space) (pass made : ℕ) (lens : List ℕ) (placement : Placement) : Type 0 where
   pub len : ℕ
   pub short : len ≤ 30
   pub few : made < 262144
@@ -80,6 +113,7 @@ pub record IsPlaced (l : Sizes) (s : Space) (pass made : ℕ) (placement : Place
   pub is : placement ≡ placed (next_birth pass made) len region (first_word l region) used last
   pub room : IsRegionOf l s pass region used
   pub fits : used + len + 1 ≤ 64
+  pub order : IsInOrder l s pass placement.room (lens ++ len ∷ [])
 
 -- the pass leaves this region, which is not the new one
 pub record IsLeft (l : Sizes) (s : Space) (pass at : ℕ) (room : Room) (placement : Placement) : Type 0 where
@@ -94,9 +128,9 @@ abbrev pub IsMade : Space → NewEnd → Type 0
 IsMade s (new_end.Made birth at room) = Holds s birth at
 IsMade s (new_end.Refused why) = Unit {0}
 
-abbrev pub IsMaking : Sizes → Space → ℕ → Room → ℕ → NewMachine → Type 0
-IsMaking l s pass room made (make.Look plan round) = IsClaiming l pass room made plan round
-IsMaking l s pass room made (make.Claim plan round) = IsClaiming l pass room made plan round
-IsMaking l s pass room made (make.Fill at placement) = IsPlaced l s pass made placement × IsLeft l s pass at room placement
-IsMaking l s pass room made (make.Header placement) = IsPlaced l s pass made placement
-IsMaking l s pass room made (make.Ended end) = IsMade s end
+abbrev pub IsMaking : Sizes → Space → ℕ → Room → ℕ → List ℕ → NewMachine → Type 0
+IsMaking l s pass room made lens (make.Look plan round) = IsClaiming l pass room made lens plan round
+IsMaking l s pass room made lens (make.Claim plan round) = IsClaiming l pass room made lens plan round
+IsMaking l s pass room made lens (make.Fill at placement) = IsPlaced l s pass made lens placement × IsLeft l s pass at room placement
+IsMaking l s pass room made lens (make.Header placement) = IsPlaced l s pass made lens placement
+IsMaking l s pass room made lens (make.Ended end) = IsMade s end

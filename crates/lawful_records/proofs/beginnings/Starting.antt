@@ -26,6 +26,7 @@ use Rattle.barriers.specs.Spots as spots
 use Rattle.barriers.specs.Stances.{stance_at, Retired}
 use Rattle.barriers.specs.States.{On}
 use Rattle.barriers.specs.Values.{value_of}
+use Rattle.barriers.specs.declared.room.Room.{Room}
 use Rattle.barriers.specs.Spaces.{Space, Holds}
 use Rattle.barriers.specs.Says.{Notices}
 use Rattle.barriers.specs.Cycles.{Cycle}
@@ -36,7 +37,7 @@ use Rattle.barriers.specs.Kits.{Kit, Stepping, Laws, own_of, cycle_at}
 use Rattle.barriers.specs.Records.{operand_word, Fits, machine_for}
 use Rattle.barriers.proofs.objects.Begins.{call_begins}
 use Rattle.lawful_records.specs.LawfulRecords.{IsAcked, IsMachine, IsUnborn, IsPassRecord, IsWriting, IsExchanging}
-use Rattle.lawful_records.specs.Making.{IsRoom}
+use Rattle.lawful_records.specs.Making.{IsRoom, lens_of}
 use Rattle.lawful_records.specs.Meetings.{HasMet}
 use Rattle.lawful_records.specs.PassTurns.{in_machine}
 use Rattle.lawful_records.specs.Records.{room_by, made_by, number_of}
@@ -121,7 +122,7 @@ module _ {R W E M : Type 0} (kit : Kit R W E M) (by : Stepping R W E M) (laws : 
   begun (requests.New len) m fits said =
       let new : NewMachine = new_of l p.pass.view p.pass.room p.pass.made len in
       subst Begun (let same : machine.New new ≡ m = cc in same)
-      (news new (new_unmade l p.pass.view p.pass.room p.pass.made len) (new_makes l s p.pass.view p.pass.room p.pass.made len fits is.few (is.room refl)))
+      (news new (new_unmade l p.pass.view p.pass.room p.pass.made len) (new_makes l s p.pass.view p.pass.room p.pass.made (lens_of p.mine) len fits is.few (is.room refl)))
   begun (requests.Read obj field) m fits said =
       let to = accessed_is (held_in p.pass.registers obj) (λ birth at. machine.Read (kit.starts_read l p.pass.view birth at field)) m said in
       subst Begun to.3 (reads to.0 to.1 field (link_by obj to.0 to.1 to.2))
@@ -155,7 +156,7 @@ module _ {R W E M : Type 0} (kit : Kit R W E M) (by : Stepping R W E M) (laws : 
     pub begun_record : IsPassRecord kit l a c s n (in_machine p m)
     begun_record = record_of kit l a c s n (in_machine p m) (rw (anew.view, anew.registers) holds) (record {
       retired = subst (IsAcked kit m) (sym (ap (λ (v : PassView). v.acked) anew.view)) as_is.acked;
-      room = λ has. subst (λ (pass : ℕ). IsRoom l s pass (room_by m p.pass.room)) (sym same_number) (subst (IsRoom l s p.pass.view.pass) (sym as_is.room) (is.room refl));
+      room = λ has. subst (λ (pass : ℕ). IsRoom l s pass (room_by m p.pass.room) (lens_of p.mine)) (sym same_number) (subst (λ (room : Room). IsRoom l s p.pass.view.pass room (lens_of p.mine)) (sym as_is.room) (is.room refl));
       few = subst (λ (made : ℕ). made ≤ 262144) (sym as_is.made) is.few;
       unborn = subst (λ (pass : ℕ). IsUnborn kit s.history pass (made_by m p.pass.made)) (sym same_number) (subst (IsUnborn kit s.history p.pass.view.pass) (sym as_is.made) is.unborn);
       machine = as_is.machine;

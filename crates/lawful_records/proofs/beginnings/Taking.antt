@@ -26,7 +26,7 @@ use Rattle.barriers.specs.Kits.{Kit, ending_of}
 use Rattle.barriers.proofs.words.Calls.{holds_fits}
 use Rattle.lawful_records.specs.Beginnings.{HasEnded, word_told, word_of_end, rested, with_word}
 use Rattle.lawful_records.specs.LawfulRecords.{IsGood, IsAcked, IsMachine, IsUnborn, IsPassRecord}
-use Rattle.lawful_records.specs.Making.{IsRoom, has_room}
+use Rattle.lawful_records.specs.Making.{IsRoom, has_room, lens_of}
 use Rattle.lawful_records.specs.Meetings.{FitsHand, HasSpotOf, HasMet}
 use Rattle.lawful_records.specs.PassTurns.{in_machine}
 use Rattle.lawful_records.specs.Records.{view_by, registers_by, room_by, made_by, number_of, acked_of, known_of, taken_in}
@@ -174,7 +174,7 @@ module _ {R W E M : Type 0} (kit : Kit R W E M) (l : Sizes) (a : Announced) (c :
     pub taken_record : IsPassRecord kit l a c s n (taken kit p register)
     taken_record = record_of kit l a c s n (taken kit p register) now_holds (record {
       retired = subst (IsAcked kit (rested kit m)) (sym (ap (λ (v : PassView). v.acked) same_view)) (rested_acked m (acked_of p) over is.answering.retired);
-      room = λ has. subst (λ (pass : ℕ). IsRoom l s pass (room_by (rested kit m) put.room)) (sym (taken_number kit p register)) (subst (IsRoom l s (number_of p)) (sym same_room) (is.room (rested_has_room m over has)));
+      room = λ has. subst (λ (pass : ℕ). IsRoom l s pass (room_by (rested kit m) put.room) (lens_of p.mine)) (sym (taken_number kit p register)) (subst (λ (room : Room). IsRoom l s (number_of p) room (lens_of p.mine)) (sym same_room) (is.room (rested_has_room m over has)));
       few = subst (λ (made : ℕ). made ≤ 262144) (sym same_made) is.few;
       unborn = subst (λ (pass : ℕ). IsUnborn kit s.history pass (made_by (rested kit m) put.made)) (sym (taken_number kit p register)) (subst (IsUnborn kit s.history (number_of p)) (sym same_made) is.unborn);
       machine = rested_is p m register over is.machine;

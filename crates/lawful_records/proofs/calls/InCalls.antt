@@ -23,16 +23,17 @@ use Rattle.barriers.specs.Knowns.{Known, spot_of}
 use Rattle.barriers.specs.Kits.{Kit, Stepping}
 use Rattle.lawful_records.specs.Beginnings.{call_ended, ended_call}
 use Rattle.lawful_records.specs.LawfulRecords.{IsAcked, IsMachine, HasTold, IsPassRecord}
-use Rattle.lawful_records.specs.Making.{IsRoom, has_room}
+use Rattle.lawful_records.specs.Making.{IsRoom, has_room, lens_of}
 use Rattle.lawful_records.specs.Meetings.{HasMade}
 use Rattle.lawful_records.specs.PassTurns.{PassStands, HasTurn, in_machine, seal_at, seal_for, found_by, change_in, pass_after}
 use Rattle.lawful_records.specs.Records.{view_by, registers_by, room_by, made_by, number_of, known_of}
-use Rattle.lawful_records.specs.Turns.{pass_asks, pass_fed, front_by, seen_by, pass_turned, LooksOn}
+use Rattle.lawful_records.specs.Turns.{pass_asks, pass_fed, front_by, seen_by, with_change, pass_turned, LooksOn}
 use Rattle.lawful_records.specs.declared.records.PassKnown.{PassKnown}
 use Rattle.lawful_records.proofs.calls.CallSteps.{CallStands, CallGoes}
 use Rattle.lawful_records.proofs.frames.Machines.{good_stays, room_stays}
 use Rattle.lawful_records.proofs.telling.Meeting.{named_later}
 use Rattle.lawful_records.proofs.telling.Turning.{Ends, IsCallTold, seen_grows, call_ends, told_step}
+use Rattle.lawful_records.proofs.turns.Ordering.{call_makes_none}
 use Rattle.lawful_records.proofs.turns.Holding.{PassHolds, MachineHolds, side_at, holds_of, machine_of, record_of}
 
 module _ {R W E M : Type 0} (kit : Kit R W E M) where
@@ -135,8 +136,12 @@ module _ {R W E M : Type 0} (kit : Kit R W E M) where
         named = λ i. named_later p.seen now (held_in p.pass.registers i) past (held.named i);
       }
 
-      room : IsRoom l t p.pass.view.pass p.pass.room
-      room = room_stays l s t p.pass.view.pass p.pass.room (λ region own. goes.regions region) (rw (was.view p.pass.view, was.room p.pass.room) at (stood.room was.has))
+      room : IsRoom l t p.pass.view.pass p.pass.room (lens_of p.mine)
+      room = room_stays l s t p.pass.view.pass p.pass.room (lens_of p.mine) (λ region own. goes.regions region) (rw (was.view p.pass.view, was.room p.pass.room) at (stood.room was.has))
+
+      -- it has made no object
+      same_lens : lens_of q.mine ≡ lens_of p.mine
+      same_lens = ap (λ change. lens_of (with_change change p.mine)) goes.change_is ∙ call_makes_none next p.pass.view.pass p.mine
 
       number : number_of q ≡ number_of (in_machine p m)
       number = ap (λ (v : PassView). v.pass) (is.view p.pass.view) ∙ sym same_number
@@ -165,7 +170,7 @@ module _ {R W E M : Type 0} (kit : Kit R W E M) where
       own : IsMachine kit l c t n q then → IsPassRecord kit l a c t n q
       own machine_is = record_of kit l a c t n q (rw (is.view p.pass.view, is.registers p.pass.registers) holds) (record {
         retired = rw (is.view p.pass.view) (is.acked p.pass.view.acked runs);
-        room = λ has. rw (is.view p.pass.view, is.room p.pass.room) room;
+        room = λ has. rw (is.view p.pass.view, is.room p.pass.room) (subst (IsRoom l t p.pass.view.pass p.pass.room) (sym same_lens) room);
         few = rw (is.made p.pass.made) (rw (was.made p.pass.made) at stood.few);
         unborn = rw (is.view p.pass.view, is.made p.pass.made) (goes.unborn p.pass.made (rw (was.view p.pass.view, was.made p.pass.made) at stood.unborn));
         machine = machine_is;

@@ -1,5 +1,5 @@
 -- What each machine of a pass stands on stays under the turns of others.
-use Rattle.std.proofs.Common.{◌≡◌, ◌≢◌, ℕ, List, Option, Some, None, sym, ◌∙◌, subst}
+use Rattle.std.proofs.Common.{◌≡◌, ◌≢◌, ℕ, List, [], ◌∷◌, ◌++◌, Option, Some, None, sym, ◌∙◌, subst}
 use Rattle.heap_words.specs.Layouts.{Sizes, IsPass}
 use Rattle.heap_words.specs.declared.field_word.FieldWord.{FieldWord}
 use Rattle.heap_words.specs.declared.field_word.FieldWord.TheVariants.{Num, Link}
@@ -23,7 +23,8 @@ use Rattle.barriers.specs.Objects.{IsSide}
 use Rattle.barriers.specs.Kits.{Kit}
 use Rattle.space_reclaim.specs.OwnRegions.{IsOwn}
 use Rattle.lawful_records.specs.Frames.{SameRegion, Beside}
-use Rattle.lawful_records.specs.Making.{IsRegionOf, IsRoomIn, IsRoom, IsPlaced, IsLeft, IsMade, IsMaking}
+use Rattle.lawful_records.specs.Making.{IsRegionOf, IsRoomIn, IsRoom, IsPlaced, IsLeft, IsMade, IsMaking, lens_of}
+use Rattle.lawful_records.proofs.turns.Ordering.{order_stays}
 use Rattle.lawful_records.specs.LawfulRecords.{IsGood, IsMoved, AreStored, IsPollIn, IsRetireIn, IsMachine}
 use Rattle.lawful_records.specs.Records.{number_of, side_of}
 use Rattle.barriers.specs.declared.pass.PassMachine.{PassMachine}
@@ -64,16 +65,16 @@ room_in_stays : (l : Sizes) (s t : Space) (pass : ℕ) (region : Option ℕ) (us
 room_in_stays l s t pass None used same is = tt
 room_in_stays l s t pass (Some region) used same is = region_stays l s t pass region used same is
 
-pub room_stays : (l : Sizes) (s t : Space) (pass : ℕ) (room : Room) → SameOwn l s t pass → IsRoom l s pass room → IsRoom l t pass room
-room_stays l s t pass room same is = record {
+pub room_stays : (l : Sizes) (s t : Space) (pass : ℕ) (room : Room) (lens : List ℕ) → SameOwn l s t pass → IsRoom l s pass room lens → IsRoom l t pass room lens
+room_stays l s t pass room lens same is = record {
   region = room_in_stays l s t pass room.region room.used same is.region;
   used = is.used;
   last = is.last;
-  free = λ none region own. (same region own).word ∙ is.free none region own;
+  order = order_stays l s pass room lens is.order t (λ region own free. (same region own).word ∙ free);
 }
 
-placed_stays : (l : Sizes) (s t : Space) (pass made : ℕ) (placement : Placement) → SameOwn l s t pass → IsPlaced l s pass made placement → IsPlaced l t pass made placement
-placed_stays l s t pass made placement same is = record {
+placed_stays : (l : Sizes) (s t : Space) (pass made : ℕ) (lens : List ℕ) (placement : Placement) → SameOwn l s t pass → IsPlaced l s pass made lens placement → IsPlaced l t pass made lens placement
+placed_stays l s t pass made lens placement same is = record {
   len = is.len;
   short = is.short;
   few = is.few;
@@ -84,6 +85,7 @@ placed_stays l s t pass made placement same is = record {
   is = is.is;
   room = region_stays l s t pass is.region is.used same is.room;
   fits = is.fits;
+  order = order_stays l s pass placement.room (lens ++ is.len ∷ []) is.order t (λ region own free. (same region own).word ∙ free);
 }
 
 left_stays : (l : Sizes) (s t : Space) (pass at : ℕ) (room : Room) (placement : Placement) → SameOwn l s t pass → IsLeft l s pass at room placement → IsLeft l t pass at room placement
@@ -100,12 +102,12 @@ made_stays : (s t : Space) (end : NewEnd) → HoldsOn s t → IsMade s end → I
 made_stays s t (new_end.Made birth at room) holds is = holds birth at is
 made_stays s t (new_end.Refused why) holds is = tt
 
-pub making_stays : (l : Sizes) (s t : Space) (pass : ℕ) (room : Room) (made : ℕ) (m : NewMachine) → HoldsOn s t → SameOwn l s t pass → IsMaking l s pass room made m → IsMaking l t pass room made m
-making_stays l s t pass room made (make.Look plan round) holds same is = is
-making_stays l s t pass room made (make.Claim plan round) holds same is = is
-making_stays l s t pass room made (make.Fill at placement) holds same is = (placed_stays l s t pass made placement same is.0, left_stays l s t pass at room placement same is.1)
-making_stays l s t pass room made (make.Header placement) holds same is = placed_stays l s t pass made placement same is
-making_stays l s t pass room made (make.Ended end) holds same is = made_stays s t end holds is
+pub making_stays : (l : Sizes) (s t : Space) (pass : ℕ) (room : Room) (made : ℕ) (lens : List ℕ) (m : NewMachine) → HoldsOn s t → SameOwn l s t pass → IsMaking l s pass room made lens m → IsMaking l t pass room made lens m
+making_stays l s t pass room made lens (make.Look plan round) holds same is = is
+making_stays l s t pass room made lens (make.Claim plan round) holds same is = is
+making_stays l s t pass room made lens (make.Fill at placement) holds same is = (placed_stays l s t pass made lens placement same is.0, left_stays l s t pass at room placement same is.1)
+making_stays l s t pass room made lens (make.Header placement) holds same is = placed_stays l s t pass made lens placement same is
+making_stays l s t pass room made lens (make.Ended end) holds same is = made_stays s t end holds is
 
 -- ---- polls and retirements
 
@@ -134,7 +136,7 @@ module _ {R W E M : Type 0} (kit : Kit R W E M) where
       let now : IsPollIn t (at n.phase n.mark) x = poll_stays s t (at n.phase n.mark) x beside.seen.holds is in
       subst (λ (phase : ℕ). IsPollIn t (at phase o.mark) x) (sym beside.phase) (subst (λ (mark : ℕ). IsPollIn t (at n.phase mark) x) (sym beside.mark) now)
   machine_stays l c m s t n o p (machine.New x) pass other beside side is =
-      making_stays l s t (number_of p) p.pass.room p.pass.made x beside.seen.holds (λ region own. beside.regions (number_of p) region pass other own) is
+      making_stays l s t (number_of p) p.pass.room p.pass.made (lens_of p.mine) x beside.seen.holds (λ region own. beside.regions (number_of p) region pass other own) is
   machine_stays l c m s t n o p (machine.Read x) pass other beside side is = (beside.seen.call (side_of kit p) (kit.reads x) side is.0, is.1, is.2)
   machine_stays l c m s t n o p (machine.Write x) pass other beside side is = (beside.seen.call (side_of kit p) (kit.writes x) side is.0, is.1, is.2)
   machine_stays l c m s t n o p (machine.Exchange x) pass other beside side is = (beside.seen.call (side_of kit p) (kit.exchanges x) side is.0, is.1, is.2)

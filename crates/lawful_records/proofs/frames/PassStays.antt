@@ -16,6 +16,7 @@ use Rattle.lawful_records.specs.Frames.{Grows, SeenBy, Leaves, Beside}
 use Rattle.lawful_records.specs.JobStands.{stand_of}
 use Rattle.lawful_records.specs.Searches.{SearchStands}
 use Rattle.lawful_records.specs.LawfulRecords.{IsPassRecord, IsCollectorRecord}
+use Rattle.lawful_records.specs.Making.{lens_of}
 use Rattle.lawful_records.specs.Records.{number_of, side_of, registers_by, room_by, made_by}
 use Rattle.lawful_records.specs.declared.awaited.Awaited.{Awaited}
 use Rattle.lawful_records.specs.declared.collector.CollectorMachine.{CollectorMachine}
@@ -87,7 +88,7 @@ module _ {R W E M : Type 0} (kit : Kit R W E M) where
     shaken = is.shaken;
     eight = is.eight;
     registers = λ i. good_stays s t (held_in (registers_by p.pass.machine p.pass.registers) i) beside.seen.holds (is.registers i);
-    room = λ has. room_stays l s t (number_of p) (room_by p.pass.machine p.pass.room) (λ region own. beside.regions (number_of p) region is.number other own) (is.room has);
+    room = λ has. room_stays l s t (number_of p) (room_by p.pass.machine p.pass.room) (lens_of p.mine) (λ region own. beside.regions (number_of p) region is.number other own) (is.room has);
     few = is.few;
     unborn = unborn_stays kit m s.history t.history (number_of p) (made_by p.pass.machine p.pass.made) other beside.history is.unborn;
     machine = machine_stays kit l c m s t n o p p.pass.machine is.number other beside is.side is.machine;

@@ -90,8 +90,13 @@ module _ {R W E M : Type 0} (kit : Kit R W E M) (by : Stepping R W E M) (laws : 
   free : (region : ℕ) → IsOwn l pass region → S.region region ≡ regions.Free
   free region own = set_else (λ k. regions.Free) 0 region regions.Filled (omega (arith, own.0, fits.pool.0))
 
-  room : IsRoom l S pass (record { region = None; used = 0; last = None })
-  room = record { region = tt; used = omega arith; last = λ region said. absurd cc; free = λ none region own. free region own }
+  room : IsRoom l S pass (record { region = None; used = 0; last = None }) []
+  room = record {
+    region = tt;
+    used = omega arith;
+    last = λ region said. absurd cc;
+    order = λ few. record { region = refl; last = refl; used = λ some. absurd (cc some); free = λ region own after. free region own };
+  }
 
   unborn : IsUnborn kit [] pass 0
   unborn b low high = no_other b (omega (arith, low, is.0))

@@ -1,8 +1,9 @@
 -- What the making of an object stands on while a region is claimed, and after it.
-use Rattle.std.proofs.Common.{◌≡◌, ◌≢◌, ℕ, ◌+◌, ◌-◌, ◌<◌, ◌==◌, Bool, true, false, if◌then◌else◌, Option, Some, None, refl, sym, ap, ◌∙◌, subst, arith}
+use Rattle.std.proofs.Common.{◌≡◌, ◌≢◌, ℕ, ◌+◌, ◌-◌, ◌<◌, ◌==◌, Bool, true, false, List, [], ◌∷◌, ◌++◌, if◌then◌else◌, Option, Some, None, refl, sym, ap, ◌∙◌, subst, arith}
 use Rattle.std.specs.Prelude.{nat_lt}
 use Rattle.std.proofs.lemmas.Bool.Decides.{nat_tests}
 use Rattle.heap_words.specs.Layouts.{Sizes, IsLayout, IsPass, region_at, first_word}
+use Rattle.heap_words.specs.Packing.{packing}
 use Rattle.space_reclaim.specs.declared.claim.Round.{Round}
 use Rattle.space_reclaim.specs.declared.claim.ClaimEnd.TheVariants as claim_end
 use Rattle.space_reclaim.specs.declared.claim.ClaimMachine.TheVariants as claim
@@ -18,7 +19,8 @@ use Rattle.barriers.specs.Rows.{Rows}
 use Rattle.barriers.specs.Spaces.{Space}
 use Rattle.barriers.specs.Says.{put_region}
 use Rattle.barriers.proofs.words.Sets.{set_here, set_else}
-use Rattle.lawful_records.specs.Making.{IsRegionOf, IsRoomIn, IsRoom, IsRound, IsClaiming, IsPlaced, IsLeft, IsMaking}
+use Rattle.lawful_records.specs.Making.{IsRegionOf, IsRoomIn, IsRoom, IsInOrder, IsRound, IsClaiming, IsPlaced, IsLeft, IsMaking}
+use Rattle.lawful_records.proofs.turns.Ordering.{order_stays, order_claims}
 use Rattle.lawful_records.proofs.turns.Stepping.{own_there}
 
 -- ---- the round
@@ -37,29 +39,32 @@ round_on l pass r fits is = round_by l pass r fits is (nat_lt r.at r.last_at) re
 pub round_region : (l : Sizes) (pass : ℕ) (r : Round) (is : IsRound l pass r) → region_of r ≡ is.region
 round_region l pass r is = omega (arith, is.at, is.words_at)
 
-module _ (l : Sizes) (pass : ℕ) (room : Room) (made : ℕ) (plan : NewPlan) (r : Round) (fits : IsLayout l) (is : IsClaiming l pass room made plan r) where
-  pub claims_on : IsClaiming l pass room made plan (next_round r)
-  claims_on = record { len = is.len; short = is.short; few = is.few; plan_is = is.plan_is; round_is = round_on l pass r fits is.round_is }
+module _ (l : Sizes) (s : Space) (pass : ℕ) (room : Room) (made : ℕ) (lens : List ℕ) (plan : NewPlan) (r : Round) (fits : IsLayout l) (is : IsClaiming l pass room made lens plan r) where
+  -- as long as not all regions are needed, it is at one that is free
+  pub free_next : IsRoom l s pass room lens → packing lens < l.quota → s.region is.round_is.region ≡ Free
+  free_next room_is few = let was = room_is.order (omega (arith, few)) in was.free is.round_is.region is.round_is.own (omega (arith, is.next few))
+
+  pub claims_on : (packing lens < l.quota → ⊥) → IsClaiming l pass room made lens plan (next_round r)
+  claims_on all = record { len = is.len; short = is.short; few = is.few; plan_is = is.plan_is; round_is = round_on l pass r fits is.round_is; full = is.full; next = λ few. absurd (all few) }
 
   -- ---- a region was in use, and the claim goes on or ends
 
-  module _ (s : Space) where
-    pub looks_on : (none : Bool) → IsMaking l s pass room made (claimed plan (if none then claim.Ended (claim_end.NoneFree r.regions) else claim.Look (next_round r)))
-    looks_on true = tt
-    looks_on false = claims_on
+  looks_on : (packing lens < l.quota → ⊥) → (none : Bool) → IsMaking l s pass room made lens (claimed plan (if none then claim.Ended (claim_end.NoneFree r.regions) else claim.Look (next_round r)))
+  looks_on all true = tt
+  looks_on all false = claims_on all
 
-    pub tries_on : (none : Bool) → IsMaking l s pass room made (claimed plan (if none then claim.Ended (claim_end.NoneFree r.regions) else claim.Claim (next_round r)))
-    tries_on true = tt
-    tries_on false = claims_on
+  pub tries_on : (packing lens < l.quota → ⊥) → (none : Bool) → IsMaking l s pass room made lens (claimed plan (if none then claim.Ended (claim_end.NoneFree r.regions) else claim.Claim (next_round r)))
+  tries_on all true = tt
+  tries_on all false = claims_on all
 
-    -- a region was free, or in use
-    pub looked : (free : Bool) → IsMaking l s pass room made (claimed plan (if free then claim.Claim r else claims.passed_by claim.Look r))
-    looked true = is
-    looked false = looks_on (r.ahead == 0)
+  -- a region was free, or in use
+  pub looked : (free : Bool) → (free ≡ false → packing lens < l.quota → ⊥) → IsMaking l s pass room made lens (claimed plan (if free then claim.Claim r else claims.passed_by claim.Look r))
+  looked true all = is
+  looked false all = looks_on (all refl) (r.ahead == 0)
 
   -- ---- the region was free, and is taken
 
-  module _ (s : Space) (rows : Rows l s.state s.len s.ends s.region) (in_layout : IsPass l pass) (room_is : IsRoom l s pass room) (free : s.region is.round_is.region ≡ Free) where
+  module _ (rows : Rows l s.state s.len s.ends s.region) (in_layout : IsPass l pass) (room_is : IsRoom l s pass room lens) (free : s.region is.round_is.region ≡ Free) where
     abbrev k : ℕ
     k = is.round_is.region
 
@@ -72,7 +77,11 @@ module _ (l : Sizes) (pass : ℕ) (room : Room) (made : ℕ) (plan : NewPlan) (r
         ∙ (ap (placed_in (plan_of l pass made is.len room.region)) (round_region l pass r is.round_is)
         ∙ placed_in-plan_of l pass made is.len k room.region fits (own_there l pass k fits in_layout is.round_is.own))
 
-    pub is_placed : IsPlaced l t pass made (placed_in plan (region_of r))
+    -- packing has the object there too
+    in_order : IsInOrder l t pass (let at = placed_in plan (region_of r) in at.room) (lens ++ is.len ∷ [])
+    in_order = subst (λ (q : Placement). IsInOrder l t pass q.room (lens ++ is.len ∷ [])) (sym place) (order_claims l s pass room lens room_is.order is.len k (0 + is.len + 1) is.full is.next (omega arith))
+
+    pub is_placed : IsPlaced l t pass made lens (placed_in plan (region_of r))
     is_placed = record {
       len = is.len;
       short = is.short;
@@ -84,6 +93,7 @@ module _ (l : Sizes) (pass : ℕ) (room : Room) (made : ℕ) (plan : NewPlan) (r
       is = place;
       room = record { own = is.round_is.own; taken = set_here s.region k (Taken pass); ends = omega (arith, rows.empty k free); few = omega arith };
       fits = omega (arith, is.short);
+      order = in_order;
     }
 
     -- the region that it leaves is another
@@ -103,17 +113,18 @@ module _ (l : Sizes) (pass : ℕ) (room : Room) (made : ℕ) (plan : NewPlan) (r
         apart : old ≢ k
         apart same = absurd (let taken : s.region k ≡ Taken pass = ap s.region (sym same) ∙ was.taken in cc)
 
-    won_by : (old : Option ℕ) → room.region ≡ old → IsMaking l t pass room made (leaving_at (word_of_old l old) (placed_in plan (region_of r)))
+    won_by : (old : Option ℕ) → room.region ≡ old → IsMaking l t pass room made lens (leaving_at (word_of_old l old) (placed_in plan (region_of r)))
     won_by None e = is_placed
     won_by (Some old) e = (is_placed, is_left old e)
 
-    pub won : IsMaking l t pass room made (leaving_at plan.old_at (placed_in plan (region_of r)))
-    won = subst (λ (old : Option ℕ). IsMaking l t pass room made (leaving_at old (placed_in plan (region_of r)))) (sym (ap (λ (q : NewPlan). q.old_at) is.plan_is)) (won_by room.region refl)
+    pub won : IsMaking l t pass room made lens (leaving_at plan.old_at (placed_in plan (region_of r)))
+    won = subst (λ (old : Option ℕ). IsMaking l t pass room made lens (leaving_at old (placed_in plan (region_of r)))) (sym (ap (λ (q : NewPlan). q.old_at) is.plan_is)) (won_by room.region refl)
 
 -- ---- the region that is left is filled
 
-pub filled : (l : Sizes) (s : Space) (pass made at : ℕ) (room : Room) (placement : Placement) → IsPlaced l s pass made placement → (left : IsLeft l s pass at room placement) → IsPlaced l (put_region s left.old Filled) pass made placement
-filled l s pass made at room placement is left = record {
+pub filled : (l : Sizes) (s : Space) (pass made : ℕ) (lens : List ℕ) (at : ℕ) (room : Room) (placement : Placement) → IsPlaced l s pass made lens placement → (left : IsLeft l s pass at room placement)
+    → IsPlaced l (put_region s left.old Filled) pass made lens placement
+filled l s pass made lens at room placement is left = record {
   len = is.len;
   short = is.short;
   few = is.few;
@@ -124,7 +135,11 @@ filled l s pass made at room placement is left = record {
   is = is.is;
   room = record { own = is.room.own; taken = set_else s.region left.old is.region Filled apart ∙ is.room.taken; ends = is.room.ends; few = is.room.few };
   fits = is.fits;
+  order = order_stays l s pass placement.room (lens ++ is.len ∷ []) is.order (put_region s left.old Filled) (λ region own free. set_else s.region left.old region Filled (not_left region free) ∙ free);
 }
   where
+    not_left : (region : ℕ) → s.region region ≡ Free → region ≢ left.old
+    not_left region free same = absurd (let was : s.region region ≡ Taken pass = ap s.region same ∙ left.taken in cc)
+
     apart : is.region ≢ left.old
     apart same = left.other (ap (λ (q : Placement). (let next = q.room in next.region)) is.is ∙ ap Some same)

@@ -38,7 +38,7 @@ use Rattle.barriers.proofs.words.Regions.{region_is}
 use Rattle.barriers.proofs.words.Sets.{set_cases, set_here, set_else}
 use Rattle.lawful_records.specs.Frames.{SeenBy, Beside, SameRegion, Left, Same, Born, Leaves}
 use Rattle.lawful_records.specs.LawfulRecords.{IsPassRecord}
-use Rattle.lawful_records.specs.Making.{IsPlaced, IsRoom}
+use Rattle.lawful_records.specs.Making.{IsPlaced, IsRoom, IsInOrder, lens_of}
 use Rattle.lawful_records.specs.Records.{side_of}
 use Rattle.lawful_records.specs.PassTurns.{PassStands, HasTurn, in_machine}
 use Rattle.barriers.specs.declared.pass.PassMachine.TheVariants as machine
@@ -60,7 +60,7 @@ module _ {R W E M : Type 0} (kit : Kit R W E M) (by : Stepping R W E M) (laws : 
   abbrev pass : ℕ
   pass = p.pass.view.pass
 
-  abbrev is : IsPlaced l s pass p.pass.made placement
+  abbrev is : IsPlaced l s pass p.pass.made (lens_of p.mine) placement
   is = stands.own.machine
 
   -- the object, and the region that it is in
@@ -151,12 +151,16 @@ module _ {R W E M : Type 0} (kit : Kit R W E M) (by : Stepping R W E M) (laws : 
   abbrev room_then : Room
   room_then = record { region = Some k; used = is.used + len + 1; last = is.last }
 
-  room_is : IsRoom l t pass room_then
+  -- packing has the object there
+  order_then : IsInOrder l t pass room_then (lens_of (call ∷ p.mine))
+  order_then few = let was = subst (λ (q : Placement). IsInOrder l s pass q.room (lens_of (call ∷ p.mine))) is.is is.order few in record { region = was.region; last = was.last; used = was.used; free = was.free }
+
+  room_is : IsRoom l t pass room_then (lens_of (call ∷ p.mine))
   room_is = record {
     region = record { own = is.room.own; taken = is.room.taken; ends = set_here s.ends k (s.ends k + 1 + len) ∙ omega (arith, is.room.ends); few = is.fits };
     used = is.fits;
     last = is.last_own;
-    free = λ none. absurd (cc none);
+    order = order_then;
   }
 
   side : IsSide kit.protocol c t (side_at kit p.pass.view (call ∷ s.history))

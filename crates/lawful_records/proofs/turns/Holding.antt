@@ -19,7 +19,7 @@ use Rattle.barriers.specs.Protocols.{Protocol}
 use Rattle.barriers.specs.Kits.{Kit, own_of}
 use Rattle.lawful_records.specs.Frames.{SeenBy}
 use Rattle.lawful_records.specs.LawfulRecords.{IsGood, IsAcked, IsMachine, IsUnborn, HasTold, IsPassRecord}
-use Rattle.lawful_records.specs.Making.{IsRoom, has_room}
+use Rattle.lawful_records.specs.Making.{IsRoom, has_room, lens_of}
 use Rattle.lawful_records.specs.Meetings.{IsNamed, HasSpotOf, HasMade}
 use Rattle.lawful_records.specs.Records.{view_by, registers_by, room_by, made_by, number_of, acked_of, known_of}
 use Rattle.lawful_records.specs.declared.records.PassKnown.{PassKnown}
@@ -89,7 +89,7 @@ module _ {R W E M : Type 0} (kit : Kit R W E M) where
   -- and what its machine makes of that
   pub record MachineHolds (l : Sizes) (c : Cycle) (s : Space) (n : Notices) (p : PassKnown R W E) : Type 0 where
     pub retired : IsAcked kit p.pass.machine (acked_of p)
-    pub room : has_room p.pass.machine ≡ true → IsRoom l s (number_of p) (room_by p.pass.machine p.pass.room)
+    pub room : has_room p.pass.machine ≡ true → IsRoom l s (number_of p) (room_by p.pass.machine p.pass.room) (lens_of p.mine)
     pub few : made_by p.pass.machine p.pass.made ≤ 262144
     pub unborn : IsUnborn kit s.history (number_of p) (made_by p.pass.machine p.pass.made)
     pub machine : IsMachine kit l c s n p p.pass.machine

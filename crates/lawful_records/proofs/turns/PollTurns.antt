@@ -32,7 +32,7 @@ use Rattle.barriers.proofs.words.Headers.{live_there}
 use Rattle.barriers.proofs.words.NoticeStores.{says_ack}
 use Rattle.barriers.proofs.words.Sets.{set_here, set_else}
 use Rattle.lawful_records.specs.LawfulRecords.{IsGood, IsMoved, IsPollIn, IsPassRecord}
-use Rattle.lawful_records.specs.Making.{IsRoom}
+use Rattle.lawful_records.specs.Making.{IsRoom, lens_of}
 use Rattle.lawful_records.specs.Records.{number_of}
 use Rattle.lawful_records.specs.PassTurns.{PassStands, HasTurn, in_machine}
 use Rattle.barriers.specs.declared.pass.PassMachine.TheVariants as machine
@@ -107,7 +107,7 @@ module _ {R W E M : Type 0} (kit : Kit R W E M) (by : Stepping R W E M) (cycle :
     rests : PassRests kit l a c s n p
     rests = rests_of kit l a c s n p (machine.Poll m) (quiet_poll kit p m runs_on) stands.own
 
-    room : IsRoom l s p.pass.view.pass p.pass.room
+    room : IsRoom l s p.pass.view.pass p.pass.room (lens_of p.mine)
     room = room_of kit l a c s n p (machine.Poll m) (quiet_poll kit p m runs_on) stands.own refl
 
     polling : IsPolling (IsMoved s) polled m

@@ -22,7 +22,7 @@ use Rattle.barriers.specs.Cycles.{Cycle}
 use Rattle.barriers.specs.Kits.{Kit}
 use Rattle.lawful_records.specs.Beginnings.{call_ended}
 use Rattle.lawful_records.specs.LawfulRecords.{IsAcked, IsMachine, IsUnborn, HasTold, IsPassRecord}
-use Rattle.lawful_records.specs.Making.{IsRoom, has_room}
+use Rattle.lawful_records.specs.Making.{IsRoom, has_room, lens_of}
 use Rattle.lawful_records.specs.Meetings.{HasMade}
 use Rattle.lawful_records.specs.PassTurns.{in_machine}
 use Rattle.lawful_records.specs.Records.{view_by, registers_by, room_by, made_by, number_of, known_of}
@@ -102,10 +102,10 @@ module _ {R W E M : Type 0} (kit : Kit R W E M) where
               (ap (λ es. p.ended ++ es) (sym quiet.ended)) before.told;
         }
 
-    pub room_of : IsPassRecord kit l a c s n (in_machine p m) → has_room m ≡ true → IsRoom l s p.pass.view.pass p.pass.room
+    pub room_of : IsPassRecord kit l a c s n (in_machine p m) → has_room m ≡ true → IsRoom l s p.pass.view.pass p.pass.room (lens_of p.mine)
     room_of is has = let room = is.room has in rw (quiet.view, quiet.room) at room
 
-    pub record_rests : PassRests l a c s n p → (has_room m ≡ true → IsRoom l s p.pass.view.pass p.pass.room) → IsMachine kit l c s n (goes_to p m) m → IsPassRecord kit l a c s n (goes_to p m)
+    pub record_rests : PassRests l a c s n p → (has_room m ≡ true → IsRoom l s p.pass.view.pass p.pass.room (lens_of p.mine)) → IsMachine kit l c s n (goes_to p m) m → IsPassRecord kit l a c s n (goes_to p m)
     record_rests rests room machine_is = record_of kit l a c s n (goes_to p m) (rw (quiet.view, quiet.registers) rests.holds) (record {
       retired = rw quiet.view (quiet.acked p.pass.view.acked rests.runs);
       room = λ has. rw (quiet.view, quiet.room) (room has);

@@ -35,7 +35,7 @@ use Rattle.barriers.proofs.words.NoticeStores.{says_ack, says_root}
 use Rattle.barriers.proofs.words.RegionStores.{says_region}
 use Rattle.barriers.proofs.words.Sets.{set_here, set_else, set2_cases}
 use Rattle.lawful_records.specs.LawfulRecords.{AreStored, IsRetireIn, IsPassRecord}
-use Rattle.lawful_records.specs.Making.{IsRoom, IsRoomIn}
+use Rattle.lawful_records.specs.Making.{IsRoom, IsRoomIn, lens_of}
 use Rattle.lawful_records.specs.Records.{number_of}
 use Rattle.lawful_records.specs.PassTurns.{PassStands, HasTurn, in_machine}
 use Rattle.barriers.specs.declared.pass.PassMachine.TheVariants as machine
@@ -129,7 +129,7 @@ module _ {R W E M : Type 0} (kit : Kit R W E M) (by : Stepping R W E M) (l : Siz
     rests : PassRests kit l a c s n p
     rests = rests_of kit l a c s n p (machine.Retire (retire.Root r behind)) (quiet_retire kit p (retire.Root r behind) tt) stands.own
 
-    room : IsRoom l s pass p.pass.room
+    room : IsRoom l s pass p.pass.room (lens_of p.mine)
     room = stands.own.room refl
 
     abbrev reg : ℕ
