@@ -1,9 +1,9 @@
--- Where one party plays after another, so many steps are enough: at most 18 for each command and ten for each thread, and as many as the
--- collector takes after them.
-use Rattle.std.proofs.Common.{◌≡◌, ℕ, zero, suc, ◌+◌, ◌-◌, ◌*◌, ◌<◌, ◌≤◌, Bool, true, false, List, [], ◌∷◌, length, get_or, map, refl, sym, ◌∙◌, subst, arith, lit≤, inl}
+-- Where one party plays after another, so many steps are enough: for each command at most 18 and one for each region of its thread, ten for each
+-- thread, and as many as the collector takes after them.
+use Rattle.std.proofs.Common.{◌≡◌, ℕ, zero, suc, ◌+◌, ◌-◌, ◌*◌, ◌<◌, ◌≤◌, Bool, true, false, List, [], ◌∷◌, length, get_or, map, refl, ap, sym, ◌∙◌, subst, arith, lit≤, inl}
 use Rattle.std.specs.Prelude.{sum_by, nat_lt, if◌then◌else◌}
 use Rattle.std.specs.List.{range_with_len}
-use Rattle.std.proofs.Math.Nat.{mul-add, add-mul, mul_assoc, mul_left_comm, mul-le-mul_left}
+use Rattle.std.proofs.Math.Nat.{mul-add, add-mul, mul_assoc, mul_comm, mul_left_comm, mul-le-mul_left}
 use Rattle.std.proofs.lemmas.List.Sums.{sum_by-cons}
 use Rattle.std.proofs.lemmas.List.FromFn.{length-range_with_len, get_or-range_with_len}
 use Rattle.heap_words.specs.Layouts.{Sizes, IsLayout, regions_of, words_of}
@@ -25,7 +25,7 @@ use Rattle.gc_cycle.specs.Runs.{is_over, run_of, enough_steps}
 use Rattle.gc_cycle.proofs.solo.Alone.{IsOutside, IsSolo, all_to_do, turns_end}
 use Rattle.gc_cycle.proofs.solo.CollectorEnds.{left_of_collector, left_at_start}
 use Rattle.gc_cycle.proofs.solo.CycleSteps.{job_steps, seek_steps}
-use Rattle.gc_cycle.proofs.solo.Left.{left}
+use Rattle.gc_cycle.proofs.solo.Left.{left, command_steps}
 use Rattle.gc_cycle.proofs.solo.SearchEnds.{region_steps}
 use Rattle.gc_cycle.proofs.solo.PlaysAlone.{PlaysAlone}
 use Rattle.gc_cycle.proofs.solo.Turns.{machine_at, left_with, to_do, begins_left}
@@ -33,8 +33,8 @@ use Rattle.gc_cycle.proofs.solo.Turns.{machine_at, left_with, to_do, begins_left
 -- ---- the number of steps
 
 -- a line has more steps than its command takes
-within_lines : (lines quota : ℕ) → 18 * lines ≤ lines * (64 + quota)
-within_lines lines quota = omega (arith, mul-add lines 64 quota)
+within_lines : (lines quota : ℕ) → command_steps quota * lines ≤ lines * (64 + quota)
+within_lines lines quota = omega (arith, mul-add lines 64 quota, add-mul 18 quota lines, mul_comm quota lines)
 
 -- a cycle at most: five announcements, its job, and eight searches
 abbrev cycle_steps : ℕ → ℕ → ℕ
@@ -55,7 +55,7 @@ within_cycles cycles passes seek words few =
     omega (arith, each, cycles_by cycles passes seek, mul_assoc (cycles + 1) 64 words, add-mul cycles 1 (64 * words))
 
 -- threads and the collector together
-all_within : (threads collector lines quota passes cycles seek words : ℕ) → threads ≤ 18 * lines + 10 * passes → collector ≤ 5 * cycles * (1 + passes) + (job_steps * cycles + SEARCHES * cycles * (1 + (1 + passes) + seek)) → cycle_steps passes seek ≤ 64 * words
+all_within : (threads collector lines quota passes cycles seek words : ℕ) → threads ≤ command_steps quota * lines + 10 * passes → collector ≤ 5 * cycles * (1 + passes) + (job_steps * cycles + SEARCHES * cycles * (1 + (1 + passes) + seek)) → cycle_steps passes seek ≤ 64 * words
     → threads + collector ≤ lines * (64 + quota) + passes * 64 + (cycles + 1) * 64 * words
 all_within threads collector lines quota passes cycles seek words few less each = omega (arith, few, less, within_lines lines quota, within_cycles cycles passes seek words each)
 
@@ -72,13 +72,14 @@ none_answered [] i = refl
 none_answered (cs ∷ later) zero = refl
 none_answered (cs ∷ later) (suc i) = none_answered later i
 
--- 18 steps for each command of a thread, and ten to retire
-abbrev pub most_of : List Command → ℕ
-most_of cs = 18 * length cs + 10
+-- the steps of each command of a thread, and ten to retire
+abbrev pub most_of : ℕ → List Command → ℕ
+most_of quota cs = command_steps quota * length cs + 10
 
-most_each : (lists : List (List Command)) → sum_by most_of lists ≡ 18 * total lists + 10 * length lists
-most_each [] = refl
-most_each (cs ∷ later) = omega (arith, sum_by-cons most_of cs later, sum_by-cons length cs later, most_each later)
+most_each : (quota : ℕ) (lists : List (List Command)) → sum_by (most_of quota) lists ≡ command_steps quota * total lists + 10 * length lists
+most_each quota [] = omega arith
+most_each quota (cs ∷ later) =
+    omega (arith, sum_by-cons (most_of quota) cs later, ap (λ (k : ℕ). command_steps quota * k) (sum_by-cons length cs later), mul-add (command_steps quota) (length cs) (total later), most_each quota later)
 
 module _ {R W E M : Type 0} (kit : Kit R W E M) (by : Stepping R W E M) (alone : PlaysAlone kit by) where
   -- each thread is before its first command, or it retires
@@ -92,9 +93,12 @@ module _ {R W E M : Type 0} (kit : Kit R W E M) (by : Stepping R W E M) (alone :
   opening_outside l party (cs ∷ later) (suc i) = opening_outside l (party + 1) later i
 
   opening_left : (l : Sizes) (party : ℕ) (lists : List (List Command)) (i : ℕ)
-      → left_with (length (get_or lists i [])) 0 (left kit by (get_or (opening_passes kit l party lists) i nobody).machine) ≤ 18 * length (get_or lists i []) + 10
-  opening_left l party [] i = lit≤ tt
-  opening_left l party (cs ∷ later) zero = let few = begins_left kit by (length cs) 0 l (fresh_pass l party) (nat_lt 0 (length cs)) refl in omega (arith, few)
+      → left_with l.quota (length (get_or lists i [])) 0 (left kit by l.quota (get_or (opening_passes kit l party lists) i nobody).machine) ≤ most_of l.quota (get_or lists i [])
+  opening_left l party [] i = omega arith
+  opening_left l party (cs ∷ later) zero =
+      let few = begins_left kit by l.quota (length cs) 0 l (fresh_pass l party) (nat_lt 0 (length cs)) refl in
+      let all : length cs - 0 ≡ length cs = omega arith in
+      omega (arith, few, ap (λ (k : ℕ). command_steps l.quota * k) all)
   opening_left l party (cs ∷ later) (suc i) = opening_left l (party + 1) later i
 
   module _ (s : Reading) (salt : ℕ) (lw : Lawful kit (opening_state kit s salt)) where
@@ -104,25 +108,26 @@ module _ {R W E M : Type 0} (kit : Kit R W E M) (by : Stepping R W E M) (alone :
     abbrev lists : List (List Command)
     lists = commands_by s.layout.passes s.lines
 
-    opening_to_do : (q : ℕ) → to_do kit by start q ≤ most_of (commands_at lists q)
+    opening_to_do : (q : ℕ) → to_do kit by start q ≤ most_of s.layout.quota (commands_at lists q)
     opening_to_do q =
-        subst (λ (k : ℕ). left_with (length (commands_at lists q)) k (left kit by (machine_at start q)) ≤ most_of (commands_at lists q)) (sym (none_answered lists (q - 1)))
+        subst (λ (k : ℕ). left_with s.layout.quota (length (commands_at lists q)) k (left kit by s.layout.quota (machine_at start q)) ≤ most_of s.layout.quota (commands_at lists q)) (sym (none_answered lists (q - 1)))
         (opening_left s.layout 1 lists (q - 1))
 
-    each_at_start : (n i : ℕ) → i < n → to_do kit by start (get_or (range_with_len 1 n) i 0) ≤ most_of (get_or lists i [])
+    each_at_start : (n i : ℕ) → i < n → to_do kit by start (get_or (range_with_len 1 n) i 0) ≤ most_of s.layout.quota (get_or lists i [])
     each_at_start n i within =
         let at : get_or (range_with_len 1 n) i 0 ≡ 1 + i = get_or-range_with_len 1 n i 0 within in
         let here : 1 + i - 1 ≡ i = omega arith in
-        let few : to_do kit by start (1 + i) ≤ most_of (get_or lists i []) = subst (λ (k : ℕ). to_do kit by start (1 + i) ≤ most_of (get_or lists k [])) here (opening_to_do (1 + i)) in
-        subst (λ (x : ℕ). to_do kit by start x ≤ most_of (get_or lists i [])) (sym at) few
+        let few : to_do kit by start (1 + i) ≤ most_of s.layout.quota (get_or lists i []) = subst (λ (k : ℕ). to_do kit by start (1 + i) ≤ most_of s.layout.quota (get_or lists k [])) here (opening_to_do (1 + i)) in
+        subst (λ (x : ℕ). to_do kit by start x ≤ most_of s.layout.quota (get_or lists i [])) (sym at) few
 
-    threads_at_start : sum_by (to_do kit by start) (range_with_len 1 s.layout.passes) ≤ 18 * length s.lines + 10 * s.layout.passes
+    threads_at_start : sum_by (to_do kit by start) (range_with_len 1 s.layout.passes) ≤ command_steps s.layout.quota * length s.lines + 10 * s.layout.passes
     threads_at_start =
         let n : ℕ = s.layout.passes in
         let threads : length lists ≡ n = lw.script.threads in
         let long : length (range_with_len 1 n) ≡ length lists = length-range_with_len 1 n ∙ sym threads in
-        let below = sum_by-le (to_do kit by start) most_of 0 [] (range_with_len 1 n) lists long (λ i within. each_at_start n i (omega (arith, within, threads))) in
-        omega (arith, below, threads, most_each lists, total-commands_by s.layout.passes s.lines)
+        let below = sum_by-le (to_do kit by start) (most_of s.layout.quota) 0 [] (range_with_len 1 n) lists long (λ i within. each_at_start n i (omega (arith, within, threads))) in
+        let few : command_steps s.layout.quota * total lists ≤ command_steps s.layout.quota * length s.lines = mul-le-mul_left (command_steps s.layout.quota) (total-commands_by s.layout.passes s.lines) in
+        omega (arith, below, threads, most_each s.layout.quota lists, few)
 
     all_at_start : all_to_do kit by alone start ≤ enough_steps s
     all_at_start =

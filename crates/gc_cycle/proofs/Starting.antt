@@ -17,7 +17,7 @@ use Rattle.heap_script.specs.CommandLaws.{length-commands_by, commands_at-comman
 use Rattle.barriers.specs.declared.pass.PassRecord.{PassRecord}
 use Rattle.barriers.specs.Kits.{Kit, Stepping, Laws}
 use Rattle.barriers.specs.Records.{IsReady}
-use Rattle.gc_cycle.specs.Lawful.{Lawful, IsScript, rooms_of}
+use Rattle.gc_cycle.specs.Lawful.{Lawful, IsScript}
 use Rattle.gc_cycle.specs.Worlds.{State, opening_state, opening_pass, opening_passes, opening_registers, fresh_pass}
 use Rattle.gc_cycle.proofs.Turning.{opening_lawful}
 
@@ -70,9 +70,9 @@ fresh_is_ready {R = R} {W = W} {E = E} l party p il is fresh =
 pub few_commands : (n : ℕ) (lines : List Line) → length lines ≤ 65536 → total (commands_by n lines) < 2 ^ 32
 few_commands n lines few = omega (arith, total-commands_by n lines, few)
 
--- the script fits, and the objects of each thread fit one region
-pub script_of : (s : Reading) → Fits s → ((t : ℕ) → IsPass s.layout t → rooms_of (commands_of t s.lines) ≤ 64) → IsScript s.layout (commands_by s.layout.passes s.lines)
-script_of s fits rooms =
+-- the script fits
+pub script_of : (s : Reading) → Fits s → IsScript s.layout (commands_by s.layout.passes s.lines)
+script_of s fits =
     let n = s.layout.passes in
     let its : (t : ℕ) → IsPass s.layout t → commands_at (commands_by n s.lines) t ≡ commands_of t s.lines = λ t is. commands_at-commands_by n s.lines t is.0 is.1 in
     let each : All (λ (l : Line). CommandFits l.command) s.lines = All-weaker (LineFits n) (λ (l : Line). CommandFits l.command) (λ l h. h.command) s.lines fits.lines in
@@ -80,10 +80,8 @@ script_of s fits rooms =
       layout = fits.layout;
       threads = length-commands_by n s.lines;
       commands = λ t is. subst (All CommandFits) (sym (its t is)) (fit-commands_of s.lines t each);
-      rooms = λ t is. subst (λ (cs : List Command). rooms_of cs ≤ 64) (sym (its t is)) (rooms t is);
       few = omega (arith, total-commands_by n s.lines, fits.count);
     }
 
-pub lawful_at_start : {R W E M : Type 0} (kit : Kit R W E M) (by : Stepping R W E M) → Laws kit by → (s : Reading) (salt : ℕ) → Fits s → ((t : ℕ) → IsPass s.layout t → rooms_of (commands_of t s.lines) ≤ 64)
-    → (w : State R W E M) → w ≡ opening_state kit s salt → Lawful kit w
-lawful_at_start kit by laws s salt fits rooms w is = subst (Lawful kit) (sym is) (opening_lawful kit by laws s salt (script_of s fits rooms) fits.cycles)
+pub lawful_at_start : {R W E M : Type 0} (kit : Kit R W E M) (by : Stepping R W E M) → Laws kit by → (s : Reading) (salt : ℕ) → Fits s → (w : State R W E M) → w ≡ opening_state kit s salt → Lawful kit w
+lawful_at_start kit by laws s salt fits w is = subst (Lawful kit) (sym is) (opening_lawful kit by laws s salt (script_of s fits) fits.cycles)

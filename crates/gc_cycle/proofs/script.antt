@@ -3,6 +3,7 @@ pub mod Beginning
 pub mod Calls
 pub mod Concluding
 pub mod Ends
+pub mod Lens
 pub mod Lists
 pub mod Machines
 pub mod Making

@@ -16,6 +16,7 @@ use Rattle.heap_script.specs.Scripts.{CommandFits}
 use Rattle.heap_script.specs.Commands.{commands_at, total}
 use Rattle.heap_script.specs.Tellings.{Tells, Thread, Standing}
 use Rattle.heap_script.specs.TellingSteps.{answers_at}
+use Rattle.barriers.specs.declared.new_object.Placement.{Placement}
 use Rattle.barriers.specs.declared.new_object.NewMachine.{NewMachine}
 use Rattle.barriers.specs.declared.new_object.NewMachine.TheVariants as make
 use Rattle.barriers.specs.declared.pass.PassRecord.{PassRecord}
@@ -24,13 +25,11 @@ use Rattle.barriers.specs.declared.pass.PassMachine.TheVariants as machine
 use Rattle.barriers.specs.declared.room.Room.{Room}
 use Rattle.handshakes.specs.Polling.{held_in}
 use Rattle.barriers.specs.Records.{ended_of}
-use Rattle.barriers.specs.NewObjects.{plan_of, placed, next_birth}
+use Rattle.barriers.specs.NewObjects.{plan_of, next_birth, new_header}
 use Rattle.barriers.specs.Values.{value_of}
 use Rattle.barriers.specs.Knowns.{Known, spot_of, task_of, call_of}
 use Rattle.barriers.specs.Kits.{Kit, ending_of}
-use Rattle.space_reclaim.specs.Claims.{round_of}
-use Rattle.space_reclaim.specs.OwnRegions.{first_own}
-use Rattle.heap_words.specs.Layouts.{first_word}
+use Rattle.object_headers.specs.Headers.{word_of_header}
 use Rattle.lawful_records.specs.declared.records.CollectorKnown.{CollectorKnown}
 use Rattle.lawful_records.specs.declared.records.PassKnown.{PassKnown}
 use Rattle.lawful_records.specs.declared.records.Party.{Party}
@@ -73,22 +72,13 @@ module _ {R W E M : Type 0} where
   abbrev pub records_in : State R W E M → List (Party R W E M)
   records_in w = map (λ p. party.Pass (known_in w p)) w.passes ++ party.Collector (collector_in w) ∷ []
 
--- ---- a script whose objects fit one region of each thread
+-- ---- a script
 
--- the words of a region that a command's object takes
-abbrev pub room_of : Command → ℕ
-room_of (commands.New dst len) = len + 1
-room_of _ = 0
-
-abbrev pub rooms_of : List Command → ℕ
-rooms_of cs = sum_by room_of cs
-
--- Scripts for which a world is built: each thread's commands are in their ranges, and its objects fit one region.
+-- Scripts for which a world is built: each thread's commands are in their ranges, and there are not too many.
 pub record IsScript (l : Sizes) (cs : List (List Command)) : Type 0 where
   pub layout : IsLayout l
   pub threads : length cs ≡ l.passes
   pub commands : (pass : ℕ) → IsPass l pass → All CommandFits (commands_at cs pass)
-  pub rooms : (pass : ℕ) → IsPass l pass → rooms_of (commands_at cs pass) ≤ 64
   pub few : total cs ≤ 65536
 
 -- there is room for an answer to each command, for a call for each, and a count of refused tries for each
@@ -101,20 +91,17 @@ pub record HasRoom {R W E M : Type 0} (w : State R W E M) : Type 0 where
 
 -- ---- where a thread is in its script
 
--- no region, as at the start
-abbrev pub no_room : Room
-no_room = record { region = None; used = 0; last = None }
+-- the next object of a pass, of so many fields
+abbrev pub IsNextObject : ℕ → ℕ → ℕ → Placement → Type 0
+IsNextObject pass made len placement = (placement.birth ≡ next_birth pass made) × (placement.header ≡ word_of_header (new_header len (next_birth pass made)))
 
--- the pass has no region yet, or it makes its objects in its first one
-abbrev pub IsFirstRoom : Sizes → ℕ → Room → Type 0
-IsFirstRoom l pass room = (room ≡ no_room) ⊎ ((room.region ≡ Some (first_own l pass)) × (room.last ≡ Some (first_own l pass)))
-
--- an object of so many fields is made: the pass claims its first region, or places the object in it
+-- an object of so many fields is made: the pass claims a region for it, fills the one that it leaves, or stores the object's header
 abbrev pub IsMakingOf : Sizes → ℕ → Room → ℕ → ℕ → NewMachine → Type 0
-IsMakingOf l pass room made len (make.Look plan round) = (room ≡ no_room) × (plan ≡ plan_of l pass made len None) × (round ≡ round_of l pass None)
-IsMakingOf l pass room made len (make.Claim plan round) = (room ≡ no_room) × (plan ≡ plan_of l pass made len None) × (round ≡ round_of l pass None)
-IsMakingOf l pass room made len (make.Header placement) = placement ≡ placed (next_birth pass made) len (first_own l pass) (first_word l (first_own l pass)) room.used (Some (first_own l pass))
-IsMakingOf l pass room made len m = ⊥
+IsMakingOf l pass room made len (make.Look plan round) = plan ≡ plan_of l pass made len room.region
+IsMakingOf l pass room made len (make.Claim plan round) = plan ≡ plan_of l pass made len room.region
+IsMakingOf l pass room made len (make.Fill at placement) = IsNextObject pass made len placement
+IsMakingOf l pass room made len (make.Header placement) = IsNextObject pass made len placement
+IsMakingOf l pass room made len (make.Ended end) = ⊥
 
 -- the call that an access is
 abbrev pub access_of : ℕ → Known → Call
@@ -136,7 +123,7 @@ thread_of w party = record { number = party; quota = w.layout.quota; commands = 
 module _ {R W E M : Type 0} (kit : Kit R W E M) where
   -- Its machine does what its command asks for: the call that it is in is the command's, of the object to which the register leads, and not over.
   abbrev pub IsAt : Sizes → PassRecord R W E → Command → PassMachine R W E → Type 0
-  IsAt l p (commands.New dst len) (machine.New m) = IsMakingOf l (let view = p.view in view.pass) p.room p.made len m × ((let room = p.room in room.used) + len + 1 ≤ 64)
+  IsAt l p (commands.New dst len) (machine.New m) = IsMakingOf l (let view = p.view in view.pass) p.room p.made len m
   IsAt l p (commands.Get dst obj field) (machine.Read m) = IsLink (held_in p.registers obj) × (access_of (let view = p.view in view.pass) (kit.reads m) ≡ read_call (face_of p) obj field) × (ending_of (kit.reads m) ≡ None)
   IsAt l p (commands.Put obj field what) (machine.Write m) = IsLink (held_in p.registers obj) × (access_of (let view = p.view in view.pass) (kit.writes m) ≡ write_call (face_of p) obj field what) × (ending_of (kit.writes m) ≡ None)
   IsAt l p (commands.Cas dst obj field expected value) (machine.Exchange m) = IsLink (held_in p.registers obj) × (access_of (let view = p.view in view.pass) (kit.exchanges m) ≡ exchange_call (face_of p) obj field expected value) × (ending_of (kit.exchanges m) ≡ None)
@@ -153,16 +140,13 @@ module _ {R W E M : Type 0} (kit : Kit R W E M) where
   IsAtCommand l p None = IsAfter p.machine
   IsAtCommand l p (Some command) = IsAt l p command p.machine
 
-  -- A thread: its answers so far are a run of its commands, and its pass is at the next one, with room for the objects to come. No machine
-  -- that has ended is left standing.
+  -- A thread: its answers so far are a run of its commands, and its pass is at the next one. No machine that has ended is left standing.
   pub record IsThreadOf (l : Sizes) (t : Thread) (p : PassRecord R W E) (answers : List Answer) (log : List Ended) : Type 0 where
     pub number : (let view = p.view in view.pass) ≡ t.number
     pub tells : Tells t (standing_of p) answers log
     pub fit : length answers ≤ length t.commands
     pub at : IsAtCommand l p (slice_get t.commands (length answers))
     pub going : ended_of kit p.machine ≡ None
-    pub room : IsFirstRoom l t.number p.room
-    pub left : (let room = p.room in room.used) + rooms_of (drop (length answers) t.commands) ≤ 64
 
   abbrev pub IsThread : State R W E M → ℕ → Type 0
   IsThread w party = IsThreadOf w.layout (thread_of w party) (pass_at w party) (answers_at w.told.answers party) w.told.log

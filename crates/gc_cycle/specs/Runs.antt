@@ -24,11 +24,12 @@ use Rattle.gc_cycle.specs.Worlds.{State, pass_at, command_at, changes_now, place
 
 -- ---- runs
 
--- Where one thread plays after another, a command takes a poll and at most 17 steps, and a thread that retires ten: it stores
--- eight registers, the word of its region and its acknowledgement. Then the collector stores each of the five phases of a
--- cycle, and loads the acknowledgement of each thread; a cycle with a job takes at most 157 steps more, and one that seeks a
--- mark draws it at most eight times, announces each draw, and loads at most 96 words for each region. So 64 steps, and one for
--- each region of a thread, are enough for a line, 64 for a thread, and for a cycle 64 for each word of the table.
+-- Where one thread plays after another, a command takes a poll and at most 17 steps, or where it makes an object one for each
+-- region of its thread and four more; and a thread that retires takes ten: it stores eight registers, the word of its region
+-- and its acknowledgement. Then the collector stores each of the five phases of a cycle, and loads the acknowledgement of each
+-- thread; a cycle with a job takes at most 157 steps more, and one that seeks a mark draws it at most eight times, announces
+-- each draw, and loads at most 96 words for each region. So 64 steps, and one for each region of a thread, are enough for a
+-- line, 64 for a thread, and for a cycle 64 for each word of the table.
 abbrev pub enough_steps : Reading → ℕ
 enough_steps script =
     length script.lines * (64 + script.layout.quota) + script.layout.passes * 64 + (script.cycles + 1) * 64 * words_of script.layout

@@ -68,7 +68,7 @@ memory_stops kit by script replay status is = subst (IsStopOver kit by script re
 module _ {R W E M : Type 0} (kit : Kit R W E M) (by : Stepping R W E M) (laws : Laws kit by) (alone : PlaysAlone kit by) where
   pub few_steps : (script : Reading) (replay : Replay) → IsBuilt script → all_end kit by script replay ≡ false → replay.schedule ≡ Solo → replay.steps < enough_steps script
   few_steps script replay built on solo =
-      let lw : Lawful kit (opening_state kit script 1) = lawful_at_start kit by laws script 1 built.fits built.room (opening_state kit script 1) refl in
+      let lw : Lawful kit (opening_state kit script 1) = lawful_at_start kit by laws script 1 built.fits (opening_state kit script 1) refl in
       let Over : Schedule → Type 0 = λ schedule. is_over kit by (run_of kit by schedule replay.steps (opening_state kit script 1)) ≡ true in
       below replay.steps (enough_steps script) (λ enough.
       let over : all_end kit by script replay ≡ true = subst Over (sym solo) (solo_ends kit by alone laws script 1 lw replay.steps enough) in

@@ -2,11 +2,8 @@
 use Rattle.std.specs.Prelude.{◌≡◌, ℕ, ◌+◌, ◌-◌, ◌^◌, ◌≤◌, List, [], ◌∷◌, map, Vec, nat_le, ◌&&◌, if◌then◌else◌, Option, Some, None, Result, Ok, Err, option_map, codes}
 use Rattle.std.specs.Option.{ok_or}
 use Rattle.std.specs.Str.{bytes_eq}
-use Rattle.heap_words.specs.Layouts.{IsPass}
-use Rattle.gc_cycle.specs.Lawful.{rooms_of}
 use Rattle.gc_cycle.specs.declared.schedule.Schedule.{Schedule}
 use Rattle.gc_cycle.specs.declared.schedule.Schedule.TheVariants.{Solo, Even, Drawn}
-use Rattle.heap_script.specs.Allowed.{commands_of}
 use Rattle.heap_script.specs.FirstFault.{IsScript, IsFault}
 use Rattle.heap_script.specs.Grammar.{◌>>=◌}
 use Rattle.heap_script.specs.Scripts.{Reading, Fits}
@@ -133,11 +130,10 @@ request_of words = request_from (asked_by words)
 
 -- ---- scripts
 
--- A script whose cycles are played, and in which the objects of each thread fit one region of 64 words.
+-- A script whose cycles are played.
 pub record IsBuilt (script : Reading) : Type 0 where
   pub fits : Fits script
   pub cycles : script.cycles ≤ 1
-  pub room : (thread : ℕ) → IsPass script.layout thread → rooms_of (commands_of thread script.lines) ≤ 64
 
 -- Why bytes are not played: a line has a fault, or they spell a script that is not built; want of memory has no cause.
 abbrev pub IsRefused : List ℕ → Status → Type 0

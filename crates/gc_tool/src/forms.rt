@@ -3,15 +3,14 @@
 ghost use Rattle.std.specs.Prelude.{◌≡◌, ℕ, ◌<◌, ◌^◌, ◌↔◌, length, Some, Ok, Err, IsTrue, IfOk, IfErr, IsErrOf, ◌⊎◌};
 ghost use Rattle.heap_script.specs.FirstFault.{IsScript, IsFault};
 ghost use Rattle.heap_script.specs.Grammar.{Fault};
-ghost use Rattle.heap_script.specs.Scripts.{Reading, Fits};
+ghost use Rattle.heap_script.specs.Scripts.{Reading};
 ghost use Rattle.heap_script.specs.Words.{number_of};
 ghost use Rattle.gc_tool.specs.Forms as grammar;
 
 use crate::status::Status;
-use gc_cycle::{Schedule, World};
+use gc_cycle::Schedule;
 use heap_script::{ReadScriptFault, Script, number, read_script};
 use std::alloc::Global;
-use stopless_copy::Stopless;
 
 /// The most cycles of a script that is played, until cycles are planned.
 const MOST_CYCLES: u32 = 1;
@@ -208,15 +207,6 @@ pub fn replay_of(words: &[Vec<u8>]) -> Result<Replay, Status>
     }
 }
 
-/// Whether a script is played, with whatever copier.
-fn is_built(script: &Script) -> bool
-    requires { Fits script.now }
-    ensures { IsTrue result ↔ grammar.IsBuilt script.now }
-{
-    // Each copier asks for the same room.
-    script.cycles <= MOST_CYCLES && World::<Stopless>::has_room_for(script)
-}
-
 /// The script that the bytes spell.
 ///
 /// # Errors
@@ -240,7 +230,7 @@ pub fn read_built(alloc: Global, bytes: &[u8]) -> Result<Script, Status>
 {
     match read_script(alloc, bytes) {
         Ok(script) => {
-            if is_built(&script) {
+            if script.cycles <= MOST_CYCLES {
                 Ok(script)
             } else {
                 Err(Status::NotBuilt)

@@ -29,7 +29,7 @@ use Rattle.lawful_records.specs.LawfulRecords.{LawfulRecords}
 use Rattle.lawful_records.specs.declared.records.Party.{Party}
 use Rattle.lawful_records.specs.declared.records.Party.TheVariants as party
 use Rattle.gc_cycle.specs.Worlds.{State, nobody, or_else, pass_at, opening_words, opening_registers, fresh_pass, opening_pass, opening_passes, opening_state}
-use Rattle.gc_cycle.specs.Lawful.{Lawful, HasRoom, IsScript, IsThread, IsThreadOf, IsAt, known_in, records_in, rooms_of, thread_of}
+use Rattle.gc_cycle.specs.Lawful.{Lawful, HasRoom, IsScript, IsThread, IsThreadOf, IsAt, known_in, records_in, thread_of}
 use Rattle.gc_cycle.proofs.records.Stepped.{in_pass}
 use Rattle.gc_cycle.proofs.opening.Starts.{known_as, collector_at_start, records_start}
 
@@ -76,17 +76,15 @@ module _ {R W E M : Type 0} (kit : Kit R W E M) where
       ap (λ (more : Bool). or_else (started kit l (fresh_pass l number) (if more then requests.Poll else requests.Retire)) (fresh_pass l number)) some
 
   -- nothing of it is answered, and it is before its first command, or before it retires where it has none
-  opening_thread : (l : Sizes) (number quota : ℕ) (cs : List Command) → rooms_of cs ≤ 64 → IsThreadOf kit l (record { number = number; quota = quota; commands = cs }) (opening_pass kit l cs number) [] []
-  opening_thread l number quota [] rooms = record {
+  opening_thread : (l : Sizes) (number quota : ℕ) (cs : List Command) → IsThreadOf kit l (record { number = number; quota = quota; commands = cs }) (opening_pass kit l cs number) [] []
+  opening_thread l number quota [] = record {
     number = refl;
     tells = tells_opening (record { number = number; quota = quota; commands = [] });
     fit = omega arith;
     at = tt;
     going = refl;
-    room = inl refl;
-    left = omega arith;
   }
-  opening_thread l number quota (c ∷ cs) rooms =
+  opening_thread l number quota (c ∷ cs) =
       let t : Thread = record { number = number; quota = quota; commands = c ∷ cs } in
       subst (λ (p : PassRecord R W E). IsThreadOf kit l t p [] []) (sym (begins_with_poll l number c cs)) (record {
         number = refl;
@@ -94,8 +92,6 @@ module _ {R W E M : Type 0} (kit : Kit R W E M) where
         fit = omega arith;
         at = polls l (polling l number) c (poll.Phase (poll_of (let p : PassRecord R W E = fresh_pass l number in p.view) (opening_registers l)));
         going = refl;
-        room = inl refl;
-        left = omega (arith, rooms);
       })
 
 module _ {R W E M : Type 0} (kit : Kit R W E M) (s : Reading) (salt : ℕ) (script : IsScript s.layout (commands_by s.layout.passes s.lines)) where
@@ -135,7 +131,7 @@ module _ {R W E M : Type 0} (kit : Kit R W E M) (s : Reading) (salt : ℕ) (scri
   thread_is : (p : ℕ) → IsPass s.layout p → IsThread kit (opening_state kit s salt) p
   thread_is p is =
       let t : Thread = thread_of (opening_state kit s salt) p in
-      let here : IsThreadOf kit s.layout t (opening_pass kit s.layout (commands_at lists p) p) [] [] = opening_thread kit s.layout p s.layout.quota (commands_at lists p) (script.rooms p is) in
+      let here : IsThreadOf kit s.layout t (opening_pass kit s.layout (commands_at lists p) p) [] [] = opening_thread kit s.layout p s.layout.quota (commands_at lists p) in
       let at : IsThreadOf kit s.layout t (pass_at (opening_state kit s salt) p) [] [] = subst (λ (x : PassRecord R W E). IsThreadOf kit s.layout t x [] []) (sym (pass_is p is)) here in
       subst (λ (answers : List Answer). IsThreadOf kit s.layout t (pass_at (opening_state kit s salt) p) answers []) (sym (opening_answers kit lists (p - 1))) at
 

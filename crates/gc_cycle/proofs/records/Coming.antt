@@ -31,7 +31,7 @@ use Rattle.barriers.specs.Kits.{Kit, Stepping, Laws}
 use Rattle.barriers.specs.Records.{Fits, ended_of, with_end}
 use Rattle.lawful_records.specs.Beginnings.{BeginsOn, call_ended}
 use Rattle.lawful_records.specs.LawfulRecords.{IsMachine}
-use Rattle.lawful_records.specs.Making.{IsMaking}
+use Rattle.lawful_records.specs.Making.{IsMaking, lens_of}
 use Rattle.lawful_records.specs.Records.{number_of}
 use Rattle.lawful_records.specs.Turns.{with_change, seen_by, change_by, front_by, pass_asks, pass_fed}
 use Rattle.lawful_records.specs.declared.records.PassKnown.{PassKnown}
@@ -51,12 +51,12 @@ use Rattle.gc_cycle.proofs.records.Shares.{Grown, number_at, record_at, changes_
 use Rattle.gc_cycle.proofs.records.Stepped.{seal_seen, turned_in, calls_kept, turned_number, view_is, looked_same, known_after}
 use Rattle.gc_cycle.proofs.records.Turns.{Comes}
 
-making_few : (l : Sizes) (s : Space) (pass : ℕ) (room : Room) (made : ℕ) (x : NewMachine) → makes.asks_of x ≢ Ended → IsMaking l s pass room made x → made < 262144
-making_few l s pass room made (make.Look plan round) on is = is.few
-making_few l s pass room made (make.Claim plan round) on is = is.few
-making_few l s pass room made (make.Fill at placement) on is = is.0.few
-making_few l s pass room made (make.Header placement) on is = is.few
-making_few l s pass room made (make.Ended end) on is = absurd (on refl)
+making_few : (l : Sizes) (s : Space) (pass : ℕ) (room : Room) (made : ℕ) (lens : List ℕ) (x : NewMachine) → makes.asks_of x ≢ Ended → IsMaking l s pass room made lens x → made < 262144
+making_few l s pass room made lens (make.Look plan round) on is = is.few
+making_few l s pass room made lens (make.Claim plan round) on is = is.few
+making_few l s pass room made lens (make.Fill at placement) on is = is.0.few
+making_few l s pass room made lens (make.Header placement) on is = is.few
+making_few l s pass room made lens (make.Ended end) on is = absurd (on refl)
 
 next_fits : (test : Bool) → Fits (if test then requests.Poll else requests.Retire)
 next_fits true = tt
@@ -69,7 +69,7 @@ module _ {R W E M : Type 0} (kit : Kit R W E M) (by : Stepping R W E M) where
   tasked_by l c s n p m is = tt
 
   few_by : (l : Sizes) (c : Cycle) (s : Space) (n : Notices) (p : PassKnown R W E) (m : PassMachine R W E) → pass_asks kit by m ≢ Ended → IsMachine kit l c s n p m → (x : NewMachine) → m ≡ machine.New x → (let pass = p.pass in pass.made) < 262144
-  few_by l c s n p (machine.New y) on is x m_is = making_few l s (number_of p) p.pass.room p.pass.made y on is
+  few_by l c s n p (machine.New y) on is x m_is = making_few l s (number_of p) p.pass.room p.pass.made (lens_of p.mine) y on is
   few_by l c s n p m on is x m_is = absurd cc
 
   seen_has : (change : Option Call) (front : Front) (seal : Option (List Call)) (h seen : List Call) → HasSeen kit by (seen_by change front seal h seen) change

@@ -27,17 +27,16 @@ use Rattle.lawful_records.specs.Records.{known_of}
 use Rattle.lawful_records.specs.Turns.{change_new, change_by, pass_fed}
 use Rattle.lawful_records.specs.declared.records.PassKnown.{PassKnown}
 use Rattle.lawful_records.proofs.calls.CallSteps.{CallKept}
-use Rattle.gc_cycle.specs.Lawful.{IsAt, IsMakingOf, access_of}
+use Rattle.gc_cycle.specs.Lawful.{IsAt, IsMakingOf, IsNextObject, access_of}
 use Rattle.gc_cycle.proofs.records.Ends.{Outcome, Polls, Makes, Reads, Writes, Exchanges, Retires, IsDone, IsNew, IsAccess}
 use Rattle.gc_cycle.proofs.records.Changes.{claimed_unmade}
 
 -- the header of a new object says how many fields it has
-placed_len : (l : Sizes) (pass made len used : ℕ) (placement : Placement) → IsLayout l → IsPass l pass → made < 262144 → len ≤ 30
-    → placement ≡ placed (next_birth pass made) len (first_own l pass) (first_word l (first_own l pass)) used (Some (first_own l pass)) → (let header = header_at placement.header in header.len) ≡ len
-placed_len l pass made len used placement layout is few short placed_is =
+placed_len : (l : Sizes) (pass made len : ℕ) (placement : Placement) → IsLayout l → IsPass l pass → made < 262144 → len ≤ 30 → IsNextObject pass made len placement → (let header = header_at placement.header in header.len) ≡ len
+placed_len l pass made len placement layout is few short next =
     let birth : ℕ = next_birth pass made in
     let fits : IsHeader (new_header len birth) = record { len = short; birth = omega (arith, layout.passes.1, is.1, few); target = omega arith; state = (omega arith, refl) } in
-    ap (λ (q : Placement). (header_at q.header).len) placed_is ∙ ap (λ (h : Header). h.len) (header_at-word_of_header (new_header len birth) fits)
+    ap (λ (word : ℕ). (header_at word).len) next.1 ∙ ap (λ (h : Header). h.len) (header_at-word_of_header (new_header len birth) fits)
 
 module _ {R W E M : Type 0} (kit : Kit R W E M) (by : Stepping R W E M) where
   -- what was last seen is this change
@@ -49,13 +48,13 @@ module _ {R W E M : Type 0} (kit : Kit R W E M) (by : Stepping R W E M) where
       → IsMakingOf l pass room made len x → makes.fed_of x n ≡ make.Ended e → HasSeen seen (change_new x pass) → IsNew kit pass len seen e
   news_done l pass made len room seen (make.Header placement) n e layout is few short at fed has =
       let same : new_end.Made placement.birth placement.at placement.room ≡ e = cc in
-      let long = placed_len l pass made len room.used placement layout is few short at in
+      let long = placed_len l pass made len placement layout is few short at in
       subst (IsNew kit pass len seen) same (has.0, has.1 ∙ ap (λ k. calls.NewObject pass placement.birth k ∷ has.0) long)
   news_done l pass made len room seen (make.Look plan round) n (new_end.Made birth at_is room_is) layout is few short at fed has = absurd (claimed_unmade plan _ birth at_is room_is fed)
   news_done l pass made len room seen (make.Look plan round) n (new_end.Refused why) layout is few short at fed has = tt
   news_done l pass made len room seen (make.Claim plan round) n (new_end.Made birth at_is room_is) layout is few short at fed has = absurd (claimed_unmade plan _ birth at_is room_is fed)
   news_done l pass made len room seen (make.Claim plan round) n (new_end.Refused why) layout is few short at fed has = tt
-  news_done l pass made len room seen (make.Fill at_is placement) n e layout is few short at fed has = absurd at
+  news_done l pass made len room seen (make.Fill at_is placement) n e layout is few short at fed has = absurd cc
   news_done l pass made len room seen (make.Ended end) n e layout is few short at fed has = absurd at
 
   access_done : (pass : ℕ) (k next : Known) (call : Call) → CallKept k next → access_of pass k ≡ call → IsAccess kit pass next call
@@ -85,7 +84,7 @@ module _ {R W E M : Type 0} (kit : Kit R W E M) (by : Stepping R W E M) where
       new_by (Makes e same end_is) =
           let fed : makes.fed_of x n ≡ make.Ended e = cc in
           subst (λ (y : NewMachine). IsDone kit (stepped_known p (machine.New x) n count seen mine) (commands.New dst len) (machine.New y)) (sym fed)
-          (news_done l p.pass.view.pass p.pass.made len p.pass.room seen x n e layout is (few x refl) fits.1 at.0 fed has)
+          (news_done l p.pass.view.pass p.pass.made len p.pass.room seen x n e layout is (few x refl) fits.1 at fed has)
       new_by (Polls e same end_is) = absurd cc
       new_by (Reads y e said same ends_so says end_is) = absurd cc
       new_by (Writes y e said same ends_so says end_is) = absurd cc

@@ -2,7 +2,6 @@
 use Rattle.std.specs.Prelude.{slice_get}
 use Rattle.std.proofs.Common.{◌≡◌, ◌≢◌, ℕ, ◌+◌, ◌≤◌, Bool, true, false, cond, List, [], ◌∷◌, ◌++◌, length, map, set, get_or, drop, Option, Some, None, refl, sym, ap, ◌∙◌, arith}
 use Rattle.std.proofs.lemmas.List.{map-set}
-use Rattle.heap_words.specs.Layouts.{Sizes}
 use Rattle.heap_words.specs.declared.operand.Operand.{Operand}
 use Rattle.heap_words.specs.declared.operand.Operand.TheVariants as operands
 use Rattle.heap_words.specs.declared.field_word.FieldWord.{FieldWord}
@@ -35,9 +34,9 @@ use Rattle.gc_cycle.specs.declared.sequel.Sequel.{Sequel}
 use Rattle.gc_cycle.specs.declared.sequel.Sequel.TheVariants as sequel
 use Rattle.gc_cycle.specs.Sequels.{named, name_in, read_call, write_call, exchange_call}
 use Rattle.gc_cycle.specs.Worlds.{logged, face_of, in_front, with_put}
-use Rattle.gc_cycle.specs.Lawful.{IsLink, IsFirstRoom, room_of, rooms_of, standing_of}
+use Rattle.gc_cycle.specs.Lawful.{IsLink, standing_of}
 use Rattle.gc_cycle.proofs.script.Ends.{IsLooked, IsChange}
-use Rattle.gc_cycle.proofs.script.Lists.{held_value, sum_by-drop}
+use Rattle.gc_cycle.proofs.script.Lists.{held_value}
 use Rattle.gc_cycle.proofs.script.Threads.{IsOf}
 
 -- a command asks for this machine
@@ -54,30 +53,26 @@ IsCallBy made seen None = made ≡ false
 IsCallBy made seen (Some e) = (e.front ≡ seen) × (is_change e.reply ≡ made)
 
 module _ {R W E : Type 0} where
-  -- a thread after a command is answered, before which it had seen so much: what it tells, and its room
-  pub record IsAnswered (l : Sizes) (t : Thread) (q : PassRecord R W E) (told : List Answer) (log : List Ended) (made : Bool) (before : ℕ) (answer : Answer) (call : Option Ended) : Type 0 where
+  -- a thread after a command is answered, before which it had seen so much: what it tells
+  pub record IsAnswered (t : Thread) (q : PassRecord R W E) (told : List Answer) (log : List Ended) (made : Bool) (before : ℕ) (answer : Answer) (call : Option Ended) : Type 0 where
     pub number : (let view = q.view in view.pass) ≡ t.number
     pub tells : Tells t (standing_of q) (told ++ answer ∷ []) (logged log call)
-    pub room : IsFirstRoom l t.number q.room
-    pub left : (let room = q.room in room.used) + rooms_of (drop (length told + 1) t.commands) ≤ 64
     pub own : IsOf t.number call
     pub heard : IsLog (logged log call)
     pub call_is : IsCallBy made q.seen call
     pub seen_is : q.seen ≡ cond made (length (changes_of log) + 1) before
 
   -- a thread between two machines, at the same command still
-  pub record IsResting (l : Sizes) (t : Thread) (q : PassRecord R W E) (told : List Answer) (log : List Ended) : Type 0 where
+  pub record IsResting (t : Thread) (q : PassRecord R W E) (told : List Answer) (log : List Ended) : Type 0 where
     pub number : (let view = q.view in view.pass) ≡ t.number
     pub tells : Tells t (standing_of q) told log
-    pub room : IsFirstRoom l t.number q.room
-    pub left : (let room = q.room in room.used) + rooms_of (drop (length told) t.commands) ≤ 64
 
   -- what comes of the end is the thread's
-  abbrev pub SequelKeeps : Sizes → Thread → PassRecord R W E → List Answer → List Ended → Bool → Command → Sequel → Type 0
-  SequelKeeps l t q told log made c sequel.Nothing = ⊥
-  SequelKeeps l t q told log made c (sequel.Starts request) = IsResting l t q told log × Asks c request × (made ≡ false)
-  SequelKeeps l t q told log made c (sequel.Answered put answer call) = IsAnswered l t (in_front (with_put q put) call) told log made q.seen answer call
-  SequelKeeps l t q told log made c (sequel.Retries why) = IsResting l t q told log × (made ≡ false)
+  abbrev pub SequelKeeps : Thread → PassRecord R W E → List Answer → List Ended → Bool → Command → Sequel → Type 0
+  SequelKeeps t q told log made c sequel.Nothing = ⊥
+  SequelKeeps t q told log made c (sequel.Starts request) = IsResting t q told log × Asks c request × (made ≡ false)
+  SequelKeeps t q told log made c (sequel.Answered put answer call) = IsAnswered t (in_front (with_put q put) call) told log made q.seen answer call
+  SequelKeeps t q told log made c (sequel.Retries why) = IsResting t q told log × (made ≡ false)
 
 -- ---- values
 
@@ -89,7 +84,7 @@ named_value (Link birth at) is = refl
 pub with_value : (values : List Value) (registers : List FieldWord) (dst : ℕ) (word : FieldWord) → values ≡ map value_of registers → set values dst (value_of word) ≡ map value_of (set registers dst word)
 with_value values registers dst word same = ap (λ (xs : List Value). set xs dst (value_of word)) same ∙ sym (map-set value_of registers dst word)
 
-module _ {R W E : Type 0} (l : Sizes) (t : Thread) (p : PassRecord R W E) (told : List Answer) (log : List Ended) (rest : IsResting l t p told log) where
+module _ {R W E : Type 0} (t : Thread) (p : PassRecord R W E) (told : List Answer) (log : List Ended) (rest : IsResting t p told log) where
   abbrev pub seat : allowed.Seat
   seat = let tells = rest.tells in tells.seat
 
@@ -130,18 +125,12 @@ module _ {R W E : Type 0} (l : Sizes) (t : Thread) (p : PassRecord R W E) (told 
   -- ---- one command answered
 
   module _ (c : Command) (at : slice_get t.commands (length told) ≡ Some c) (heard : IsLog log) where
-    -- the room that it leaves for later objects
-    left_then : (used : ℕ) → used ≤ (let room = p.room in room.used) + room_of c → used + rooms_of (drop (length told + 1) t.commands) ≤ 64
-    left_then used more = omega (arith, more, rest.left, sum_by-drop room_of t.commands (length told) c at)
-
     -- it was no call
     pub none_told : (a : Answer) (registers : List FieldWord) → allowed.call_of t.number seat c a ≡ None → allowed.IsNoCall t.quota (heap_of log) seat c a → allowed.registers_after seat c a ≡ map value_of registers → allowed.lens_after seat c a ≡ seat.lens
-        → IsAnswered l t (record p { registers = registers; machine = machine.Idle }) told log false p.seen a None
+        → IsAnswered t (record p { registers = registers; machine = machine.Idle }) told log false p.seen a None
     none_told a registers none no_call regs lens = record {
       number = rest.number;
       tells = tells_none t (standing_of p) told log rest.tells c at a (map value_of registers) none (no_call_seen t (standing_of p) told log rest.tells c a no_call) regs (ap length lens ∙ (let tells = rest.tells in tells.lens_are));
-      room = rest.room;
-      left = left_then (let room = p.room in room.used) (omega arith);
       own = tt;
       heard = heard;
       call_is = refl;
@@ -151,15 +140,13 @@ module _ {R W E : Type 0} (l : Sizes) (t : Thread) (p : PassRecord R W E) (told 
     -- a look
     pub look_told : (a : Answer) (call : Call) (registers : List FieldWord) → allowed.call_of t.number seat c a ≡ Some call → allowed.IsNumbered t.number seat a → is_change (allowed.reply_of a) ≡ false → allowed.reply_of a ≢ replies.NotThere → pass_of call ≡ (let view = p.view in view.pass)
         → IsLooked log p.seen call (allowed.reply_of a) → allowed.registers_after seat c a ≡ map value_of registers → allowed.lens_after seat c a ≡ seat.lens
-        → IsAnswered l t (record p { registers = registers; machine = machine.Idle }) told log false p.seen a (Some (record { call = call; reply = allowed.reply_of a; front = p.seen }))
+        → IsAnswered t (record p { registers = registers; machine = machine.Idle }) told log false p.seen a (Some (record { call = call; reply = allowed.reply_of a; front = p.seen }))
     look_told a call registers some numbered look there own looked regs lens =
         let tells = rest.tells in
         let mine : pass_of call ≡ t.number = own ∙ rest.number in
         record {
           number = rest.number;
           tells = tells_look t (standing_of p) told log tells c at a call p.seen (map value_of registers) some numbered look mine tells.seen_grows looked.within looked.said regs (ap length lens ∙ tells.lens_are);
-          room = rest.room;
-          left = left_then (let room = p.room in room.used) (omega arith);
           own = mine;
           heard = IsLog-look log (record { call = call; reply = allowed.reply_of a; front = p.seen }) heard look looked.within looked.said there;
           call_is = (refl, look);
@@ -168,15 +155,13 @@ module _ {R W E : Type 0} (l : Sizes) (t : Thread) (p : PassRecord R W E) (told 
 
     -- a change
     pub change_told : (a : Answer) (call : Call) (registers : List FieldWord) (room : Room) (made : ℕ) → allowed.call_of t.number seat c a ≡ Some call → allowed.IsNumbered t.number seat a → is_change (allowed.reply_of a) ≡ true → pass_of call ≡ (let view = p.view in view.pass)
-        → IsChange log call (allowed.reply_of a) → allowed.registers_after seat c a ≡ map value_of registers → length (allowed.lens_after seat c a) ≡ made → IsFirstRoom l t.number room → room.used ≤ (let old = p.room in old.used) + room_of c
-        → IsAnswered l t (record p { registers = registers; machine = machine.Idle; room = room; made = made; seen = length (changes_of log) + 1 }) told log true p.seen a (Some (record { call = call; reply = allowed.reply_of a; front = length (changes_of log) + 1 }))
-    change_told a call registers room made some numbered change own said regs lens first more =
+        → IsChange log call (allowed.reply_of a) → allowed.registers_after seat c a ≡ map value_of registers → length (allowed.lens_after seat c a) ≡ made
+        → IsAnswered t (record p { registers = registers; machine = machine.Idle; room = room; made = made; seen = length (changes_of log) + 1 }) told log true p.seen a (Some (record { call = call; reply = allowed.reply_of a; front = length (changes_of log) + 1 }))
+    change_told a call registers room made some numbered change own said regs lens =
         let mine : pass_of call ≡ t.number = own ∙ rest.number in
         record {
           number = rest.number;
           tells = tells_change t (standing_of p) told log rest.tells c at a call made (map value_of registers) some numbered change mine said regs lens;
-          room = first;
-          left = left_then room.used more;
           own = mine;
           heard = IsLog-change log (record { call = call; reply = allowed.reply_of a; front = length (changes_of log) + 1 }) heard change refl said;
           call_is = (refl, change);

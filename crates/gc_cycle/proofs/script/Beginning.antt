@@ -7,6 +7,7 @@ use Rattle.std.proofs.lemmas.Bool.{ltb-true, ltb-false, le-leb, ne_eqb}
 use Rattle.std.proofs.lemmas.List.{get_or_past}
 use Rattle.std.proofs.lemmas.Option.{same_Some}
 use Rattle.heap_words.specs.Layouts.{Sizes}
+use Rattle.heap_words.specs.Packing.{fits_behind}
 use Rattle.heap_words.specs.FieldWords.{IsFieldWord, word_of}
 use Rattle.heap_words.specs.declared.operand.Operand.{Operand}
 use Rattle.heap_words.specs.declared.operand.Operand.TheVariants as operands
@@ -47,9 +48,9 @@ use Rattle.barriers.specs.Spots as spots
 use Rattle.barriers.specs.Values.{value_of}
 use Rattle.gc_cycle.specs.Sequels.{named, name_in}
 use Rattle.gc_cycle.specs.Worlds.{or_else, logged}
-use Rattle.gc_cycle.specs.Lawful.{IsThreadOf, IsAt, IsAtCommand, IsFirstRoom, IsMakingOf, IsLink, room_of, rooms_of, access_of}
+use Rattle.gc_cycle.specs.Lawful.{IsThreadOf, IsAt, IsAtCommand, IsMakingOf, IsLink, access_of}
 use Rattle.gc_cycle.proofs.script.Answering.{Asks, IsAnswered, IsResting, seat, same, held_is, none_told}
-use Rattle.gc_cycle.proofs.script.Lists.{below_of_get, get_below, get_past, sum_by-drop}
+use Rattle.gc_cycle.proofs.script.Lists.{below_of_get, get_below, get_past}
 
 -- a poll before the next command, or the retirement after the last
 abbrev pub request_at : Thread → ℕ → Request
@@ -70,12 +71,12 @@ module _ {R W E M : Type 0} (kit : Kit R W E M) where
 
   module _ (l : Sizes) (t : Thread) (q : PassRecord R W E) where
     -- a thread in this machine
-    in_machine : (told : List Answer) (log : List Ended) (m : PassMachine R W E) → length told ≤ length t.commands → IsResting l t q told log → IsAtCommand kit l (record q { machine = m }) (slice_get t.commands (length told)) → ended_of kit m ≡ None
+    in_machine : (told : List Answer) (log : List Ended) (m : PassMachine R W E) → length told ≤ length t.commands → IsResting t q told log → IsAtCommand kit l (record q { machine = m }) (slice_get t.commands (length told)) → ended_of kit m ≡ None
         → IsThreadOf kit l t (record q { machine = m }) told log
-    in_machine told log m fit rest at going = record { number = rest.number; tells = rest.tells; fit = fit; at = at; going = going; room = rest.room; left = rest.left }
+    in_machine told log m fit rest at going = record { number = rest.number; tells = rest.tells; fit = fit; at = at; going = going }
 
     -- it polls again
-    pub polls_again : (told : List Answer) (log : List Ended) (c : Command) → slice_get t.commands (length told) ≡ Some c → IsResting l t q told log
+    pub polls_again : (told : List Answer) (log : List Ended) (c : Command) → slice_get t.commands (length told) ≡ Some c → IsResting t q told log
         → IsThreadOf kit l t (or_else (started kit l q requests.Poll) q) told log
     polls_again told log c at rest =
         let next = or_else (started kit l q requests.Poll) q in
@@ -84,7 +85,7 @@ module _ {R W E M : Type 0} (kit : Kit R W E M) where
         in_machine told log _ (omega (arith, fit)) rest here refl
 
     -- it goes on after an answer
-    goes_by : (told : List Answer) (log : List Ended) (polls : Bool) → nat_lt (length told) (length t.commands) ≡ polls → length told ≤ length t.commands → IsResting l t q told log
+    goes_by : (told : List Answer) (log : List Ended) (polls : Bool) → nat_lt (length told) (length t.commands) ≡ polls → length told ≤ length t.commands → IsResting t q told log
         → IsThreadOf kit l t (or_else (started kit l q (cond polls requests.Poll requests.Retire)) q) told log
     goes_by told log true test fit rest =
         let there = get_below t.commands (length told) (ltb-true (length told) (length t.commands) test) in
@@ -94,16 +95,11 @@ module _ {R W E M : Type 0} (kit : Kit R W E M) where
         let past : slice_get t.commands (length told) ≡ None = get_past t.commands (length told) (ltb-false (length told) (length t.commands) test) in
         in_machine told log _ fit rest (subst (IsAtCommand kit l next) (sym past) tt) refl
 
-    pub goes_on : (told : List Answer) (log : List Ended) (made : Bool) (before : ℕ) (answer : Answer) (call : Option Ended) → length told < length t.commands → IsAnswered l t q told log made before answer call
+    pub goes_on : (told : List Answer) (log : List Ended) (made : Bool) (before : ℕ) (answer : Answer) (call : Option Ended) → length told < length t.commands → IsAnswered t q told log made before answer call
         → IsThreadOf kit l t (or_else (started kit l q (request_at t (length told + 1))) q) (told ++ answer ∷ []) (logged log call)
     goes_on told log made before answer call below is =
         let more : length (told ++ answer ∷ []) ≡ length told + 1 = length-append told (answer ∷ []) in
-        let rest : IsResting l t q (told ++ answer ∷ []) (logged log call) = record {
-          number = is.number;
-          tells = is.tells;
-          room = is.room;
-          left = subst (λ (n : ℕ). (let room = q.room in room.used) + rooms_of (drop n t.commands) ≤ 64) (sym more) is.left;
-        } in
+        let rest : IsResting t q (told ++ answer ∷ []) (logged log call) = record { number = is.number; tells = is.tells } in
         subst (λ (n : ℕ). IsThreadOf kit l t (or_else (started kit l q (request_at t n)) q) (told ++ answer ∷ []) (logged log call)) more
         (goes_by (told ++ answer ∷ []) (logged log call) (nat_lt (length (told ++ answer ∷ [])) (length t.commands)) refl (omega (arith, more, below)) rest)
 
@@ -132,19 +128,15 @@ length-take (suc n) (x ∷ xs) = omega (arith, length-take n xs)
 
 module _ (l : Sizes) (view : PassView) (len : ℕ) where
   -- a region is claimed, or the object is placed after the others
-  fit_is : (room : Room) (made : ℕ) → IsFirstRoom l view.pass room → room.used + len + 1 ≤ 64
-      → (let m = by_fit l view.pass room made len room.region (nat_le (room.used + len + 1) 64) in IsMakingOf l view.pass room made len m × (end_of m ≡ None))
-  fit_is room made (inl none) small =
-      subst (λ (x : Room). (let m = by_fit l view.pass x made len x.region (nat_le (x.used + len + 1) 64) in IsMakingOf l view.pass x made len m × (end_of m ≡ None))) (sym none) ((refl, refl, refl), refl)
-  fit_is room made (inr first) small =
-      let fits : nat_le (room.used + len + 1) 64 ≡ true = le-leb (room.used + len + 1) 64 small in
-      rw (first.0, fits, first.1) (refl, refl)
+  fit_is : (room : Room) (made : ℕ) (region : Option ℕ) (fits : Bool) → (let m = by_fit l view.pass room made len region fits in IsMakingOf l view.pass room made len m × (end_of m ≡ None))
+  fit_is room made None fits = (refl, refl)
+  fit_is room made (Some region) true = ((refl, refl), refl)
+  fit_is room made (Some region) false = (refl, refl)
 
-  making_is : (room : Room) (made : ℕ) → IsFirstRoom l view.pass room → room.used + len + 1 ≤ 64 → made < 262144
-      → IsMakingOf l view.pass room made len (new_of l view room made len) × (end_of (new_of l view room made len) ≡ None)
-  making_is room made first small few =
+  making_is : (room : Room) (made : ℕ) → made < 262144 → IsMakingOf l view.pass room made len (new_of l view room made len) × (end_of (new_of l view room made len) ≡ None)
+  making_is room made few =
       let more : nat_eq made 262144 ≡ false = ne_eqb made 262144 (omega arith) in
-      rw more (fit_is room made first small)
+      rw more (fit_is room made room.region (fits_behind room.used len))
 
 -- ---- accesses
 
@@ -169,7 +161,7 @@ module _ {R W E M : Type 0} (kit : Kit R W E M) (by : Stepping R W E M) (laws : 
       let does : task_of (knows m) ≡ t = ap task_of is ∙ task in
       (ap (λ z. call_of pass z (task_of (knows m))) here ∙ ap (call_of pass s) does, tells ∙ ap (λ x. said_by said (ending_of x)) is ∙ ap (said_by said) (runs_at k s at), ap ending_of is ∙ runs_at k s at)
 
-  module _ (l : Sizes) (t : Thread) (q : PassRecord R W E) (told : List Answer) (log : List Ended) (rest : IsResting l t q told log) where
+  module _ (l : Sizes) (t : Thread) (q : PassRecord R W E) (told : List Answer) (log : List Ended) (rest : IsResting t q told log) where
     abbrev At : Command → Type 0
     At c = slice_get t.commands (length told) ≡ Some c
 
@@ -189,8 +181,6 @@ module _ {R W E M : Type 0} (kit : Kit R W E M) (by : Stepping R W E M) (laws : 
           fit = omega (arith, fit);
           at = subst (IsAtCommand kit l (record q { machine = m })) (sym at) is;
           going = going;
-          room = rest.room;
-          left = rest.left;
         }
 
     -- the same of an access of what a register leads to
@@ -206,12 +196,10 @@ module _ {R W E M : Type 0} (kit : Kit R W E M) (by : Stepping R W E M) (laws : 
     new_begins : (dst len : ℕ) → At (commands.New dst len) → length t.commands ≤ 65536 → Begins (requests.New len)
     new_begins dst len at short next is =
         let view = q.view in
-        let first : IsFirstRoom l view.pass q.room = subst (λ (n : ℕ). IsFirstRoom l n q.room) (sym rest.number) rest.room in
-        let small : (let room = q.room in room.used) + len + 1 ≤ 64 = omega (arith, rest.left, sum_by-drop room_of t.commands (length told) (commands.New dst len) at) in
-        let making = making_is l view len q.room q.made first small (few short) in
+        let making = making_is l view len q.room q.made (few short) in
         let m = machine.New (new_of l view q.room q.made len) in
         subst (λ (x : PassRecord R W E). IsThreadOf kit l t x told log) (same_Some _ _ is)
-        (next_is (commands.New dst len) m at (making.0, small) (ap (option_map (λ e. ends.New e)) making.1))
+        (next_is (commands.New dst len) m at making.0 (ap (option_map (λ e. ends.New e)) making.1))
 
     -- the registers lead to these objects
     link_is : (obj birth at : ℕ) → held_in q.registers obj ≡ Link birth at → IsLink (held_in q.registers obj) × (named q.registers obj ≡ birth)
@@ -278,27 +266,27 @@ module _ {R W E M : Type 0} (kit : Kit R W E M) (by : Stepping R W E M) (laws : 
     not_object (Num n) begin is = (n, refl)
     not_object (Link birth at) begin is = absurd cc
 
-    not_link : (heap : Heap) (obj field n : ℕ) → held_in q.registers obj ≡ Num n → allowed.IsRefused heap (allowed.held (seat l t q told log rest) obj) field answers.NotLink
-    not_link heap obj field n is = subst (λ (v : Value). allowed.IsRefused heap v field answers.NotLink) (sym (held_is l t q told log rest obj ∙ ap value_of is)) tt
+    not_link : (heap : Heap) (obj field n : ℕ) → held_in q.registers obj ≡ Num n → allowed.IsRefused heap (allowed.held (seat t q told log rest) obj) field answers.NotLink
+    not_link heap obj field n is = subst (λ (v : Value). allowed.IsRefused heap v field answers.NotLink) (sym (held_is t q told log rest obj ∙ ap value_of is)) tt
 
     module _ (heard : IsLog log) where
       abbrev NotLink : Request → Type 0
-      NotLink request = started kit l q request ≡ None → IsAnswered l t (record q { machine = machine.Idle }) told log false q.seen answers.NotLink None
+      NotLink request = started kit l q request ≡ None → IsAnswered t (record q { machine = machine.Idle }) told log false q.seen answers.NotLink None
 
       get_not : (dst obj field : ℕ) → At (commands.Get dst obj field) → NotLink (requests.Read obj field)
       get_not dst obj field at none =
           let number = not_object (held_in q.registers obj) _ none in
-          none_told l t q told log rest (commands.Get dst obj field) at heard answers.NotLink q.registers refl (not_link (heap_of log) obj field number.0 number.1) (same l t q told log rest) refl
+          none_told t q told log rest (commands.Get dst obj field) at heard answers.NotLink q.registers refl (not_link (heap_of log) obj field number.0 number.1) (same t q told log rest) refl
 
       put_not : (obj field : ℕ) (what : Operand) → At (commands.Put obj field what) → NotLink (requests.Write obj field what)
       put_not obj field what at none =
           let number = not_object (held_in q.registers obj) _ none in
-          none_told l t q told log rest (commands.Put obj field what) at heard answers.NotLink q.registers refl (not_link (heap_of log) obj field number.0 number.1) (same l t q told log rest) refl
+          none_told t q told log rest (commands.Put obj field what) at heard answers.NotLink q.registers refl (not_link (heap_of log) obj field number.0 number.1) (same t q told log rest) refl
 
       cas_not : (dst obj field : ℕ) (expected what : Operand) → At (commands.Cas dst obj field expected what) → NotLink (requests.Exchange obj field expected what)
       cas_not dst obj field expected what at none =
           let number = not_object (held_in q.registers obj) _ none in
-          none_told l t q told log rest (commands.Cas dst obj field expected what) at heard answers.NotLink q.registers refl (not_link (heap_of log) obj field number.0 number.1) (same l t q told log rest) refl
+          none_told t q told log rest (commands.Cas dst obj field expected what) at heard answers.NotLink q.registers refl (not_link (heap_of log) obj field number.0 number.1) (same t q told log rest) refl
 
       pub begins_not_at : (c : Command) → At c → (request : Request) → Asks c request → NotLink request
       begins_not_at (commands.New dst len) at request asks = subst NotLink (sym asks) (λ none. absurd cc)

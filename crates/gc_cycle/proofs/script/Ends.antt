@@ -1,20 +1,22 @@
 -- What the end of a machine says of the thread's command.
-use Rattle.std.specs.Prelude.{◌≡◌, ℕ, ◌+◌, ◌≤◌, Bool, true, false, List, length, map, Some}
+use Rattle.std.specs.Prelude.{◌≡◌, ℕ, ◌<◌, ◌≤◌, ◌==◌, Bool, true, false, List, [], ◌∷◌, ◌++◌, length, map, reverse, Some}
+use Rattle.std.specs.List.{filter}
 use Rattle.std.specs.Option.{option_map}
 use Rattle.heap_words.specs.Layouts.{Sizes}
-use Rattle.space_reclaim.specs.OwnRegions.{first_own}
+use Rattle.heap_words.specs.Packing.{packing}
 use Rattle.heap_history.specs.declared.call.Call.{Call}
 use Rattle.heap_history.specs.declared.call.Call.TheVariants as calls
 use Rattle.heap_history.specs.declared.call.Reply.{Reply}
 use Rattle.heap_history.specs.declared.call.Reply.TheVariants as replies
 use Rattle.heap_history.specs.declared.call.Ended.{Ended}
 use Rattle.heap_history.specs.FixedHeaps.{answer, fields_of}
-use Rattle.heap_history.specs.Histories.{heap_at}
+use Rattle.heap_history.specs.Histories.{heap_at, pass_of}
 use Rattle.heap_history.specs.Logs.{changes_of, heap_of}
 use Rattle.heap_script.specs.declared.script.Command.{Command}
 use Rattle.heap_script.specs.declared.script.Command.TheVariants as commands
 use Rattle.handshakes.specs.Polling.{held_in}
 use Rattle.barriers.specs.declared.ends.NewEnd.TheVariants as new_end
+use Rattle.barriers.specs.declared.ends.NewRefusal.TheVariants.{QuotaSpent}
 use Rattle.barriers.specs.declared.ends.ReadEnd.TheVariants as read_end
 use Rattle.barriers.specs.declared.ends.WriteEnd.TheVariants as write_end
 use Rattle.barriers.specs.declared.ends.ExchangeEnd.TheVariants as exchange_end
@@ -23,11 +25,11 @@ use Rattle.barriers.specs.declared.ends.TryRefusal.TheVariants as refusal
 use Rattle.barriers.specs.declared.machine_end.MachineEnd.{MachineEnd}
 use Rattle.barriers.specs.declared.machine_end.MachineEnd.TheVariants as ends
 use Rattle.barriers.specs.declared.pass.PassRecord.{PassRecord}
-use Rattle.barriers.specs.declared.room.Room.{Room}
 use Rattle.barriers.specs.NewObjects.{next_birth}
 use Rattle.barriers.specs.Values.{value_of}
 use Rattle.gc_cycle.specs.Sequels.{named, read_call, write_call, exchange_call}
 use Rattle.gc_cycle.specs.Worlds.{face_of}
+use Rattle.lawful_records.specs.Making.{lens_of}
 use Rattle.gc_cycle.specs.Lawful.{IsLink}
 
 -- a call was a look at the heap after so many changes
@@ -50,11 +52,9 @@ IsRefused log birth field refusal.NotLink = ⊥
 IsRefused log birth field (refusal.NoField len) = HasNoField log birth field len
 IsRefused log birth field why = Unit {0}
 
--- the room with one more object, in the pass's first region
-pub record IsRoomier (l : Sizes) (pass len : ℕ) (before after : Room) : Type 0 where
-  pub region : after.region ≡ Some (first_own l pass)
-  pub last : after.last ≡ Some (first_own l pass)
-  pub used : after.used ≡ before.used + len + 1
+-- the lens of the objects that a pass has made
+abbrev pub lens_made : List Ended → ℕ → List ℕ
+lens_made log pass = lens_of (filter (λ c. pass_of c == pass) (reverse (changes_of log)))
 
 module _ {R W E : Type 0} where
   -- What it says at this command, of the record before it is taken in, and whether the step was a call's change.
@@ -62,8 +62,10 @@ module _ {R W E : Type 0} where
   EndSays l log p c (ends.Poll end) made =
       ((let view = end.view in view.pass) ≡ (let view = p.view in view.pass)) × (map value_of end.registers ≡ map value_of p.registers) × (made ≡ false)
   EndSays l log p (commands.New dst len) (ends.New (new_end.Made birth at room)) made =
-      (birth ≡ next_birth (let view = p.view in view.pass) p.made) × IsRoomier l (let view = p.view in view.pass) len p.room room
+      (birth ≡ next_birth (let view = p.view in view.pass) p.made)
       × IsChange log (calls.NewObject (let view = p.view in view.pass) birth len) replies.Made × (made ≡ true)
+  EndSays l log p (commands.New dst len) (ends.New (new_end.Refused (QuotaSpent regions))) made =
+      (l.quota < packing (lens_made log (let view = p.view in view.pass) ++ len ∷ [])) × (made ≡ false)
   EndSays l log p (commands.Get dst obj field) (ends.Read (read_end.Got word)) made =
       IsLink (held_in p.registers obj) × IsLooked log p.seen (read_call (face_of p) obj field) (replies.Got (value_of word)) × (made ≡ false)
   EndSays l log p (commands.Get dst obj field) (ends.Read (read_end.NoField len)) made =

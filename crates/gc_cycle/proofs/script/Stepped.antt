@@ -46,20 +46,21 @@ use Rattle.lawful_records.specs.Collectors.{drawn_of}
 use Rattle.lawful_records.specs.Cycling.{announced_by, cycle_of}
 use Rattle.lawful_records.specs.LawfulRecords.{AreSealed, LawfulRecords, IsPassRecord}
 use Rattle.lawful_records.specs.Beginnings.{word_of_end, word_told, rested}
-use Rattle.lawful_records.specs.PassTurns.{IsAnnounced, PassStands, HasTurn, pass_after, seal_for}
+use Rattle.lawful_records.specs.PassTurns.{IsAnnounced, PassStands, HasTurn, in_machine, pass_after, seal_for}
 use Rattle.lawful_records.specs.Making.{IsRoom, IsRoomIn, has_room}
 use Rattle.lawful_records.specs.Records.{registers_by, room_by, view_by, number_of, taken_in}
 use Rattle.lawful_records.specs.Turns.{pass_asks, pass_fed, pass_turned, front_by, change_by, seal_in, LooksOn}
 use Rattle.lawful_records.specs.declared.records.PassKnown.{PassKnown}
 use Rattle.lawful_records.proofs.calls.Sights.{IsSealAt, sees_so, turned_alike}
 use Rattle.lawful_records.proofs.parties.Seals.{are_sealed}
+use Rattle.lawful_records.proofs.turns.NewTurns.{new_needs_more}
 use Rattle.lawful_records.proofs.turns.OwnTurns.{turn_of, kept_of}
 use Rattle.gc_cycle.proofs.records.Seals.{seal_count, looks_count, sealed_is, records_know}
 use Rattle.gc_cycle.proofs.records.Stepped.{seal_seen, sealed_few}
 use Rattle.lawful_records.proofs.beginnings.Taking.{Standing, end_good}
 use Rattle.lawful_records.proofs.turns.Stepping.{own_there}
 use Rattle.gc_cycle.specs.Worlds.{State, pass_at, command_at, changes_now, asks_at, found_at, seal_at, fed_at, seen_with, EndFits}
-use Rattle.gc_cycle.specs.Lawful.{Lawful, IsAtCommand, known_in, history_in, records_in, seals_in, no_room}
+use Rattle.gc_cycle.specs.Lawful.{Lawful, IsAtCommand, known_in, history_in, records_in, seals_in}
 use Rattle.gc_cycle.specs.Runs.{decides_at}
 use Rattle.heap_history.specs.NewestFirst.{Before}
 use Rattle.heap_history.specs.NewestFirstLaws.{Before-length}
@@ -71,7 +72,7 @@ use Rattle.gc_cycle.proofs.records.Stepping.{front_is}
 use Rattle.gc_cycle.proofs.script.Lists.{All-slice_get}
 use Rattle.gc_cycle.proofs.script.Machines.{StepSays}
 use Rattle.gc_cycle.proofs.script.Turned.{EndSaysAt, HasStepped}
-use Rattle.gc_cycle.proofs.script.Stepping.{found_alike, free_word, all_held, words_after, FreesAt, FitsAt, Kept, says_of}
+use Rattle.gc_cycle.proofs.script.Stepping.{found_alike, all_held, words_after, NeedsAt, FitsAt, Kept, says_of}
 
 -- ---- in a lawful world
 
@@ -147,43 +148,20 @@ module _ {R W E M : Type 0} (kit : Kit R W E M) (by : Stepping R W E M) (laws : 
   fits_at None at = tt
   fits_at (Some command) at = let script = lw.script in All-slice_get CommandFits (commands_at w.commands party) (length (answers_at w.told.answers party)) command (script.commands party is) at
 
-  -- the word of the first region, which is free while the pass has none
-  first_word_is : (round : Round) → p.room ≡ no_room → round ≡ round_of l (let view = p.view in view.pass) None → IsRoom l s (let view = p.view in view.pass) p.room → slice_index w.words round.at ≡ 0
-  first_word_is round room_is round_is room =
-      let pass = (let view = p.view in view.pass) in
-      let first = first_own l pass in
-      let own : IsOwn l pass first = (omega arith, omega arith) in
-      let free : s.region first ≡ Free = room.free (ap (λ (x : Room). x.region) room_is) first own in
-      let region = own_there l pass first stands.layout in_layout own in
-      let says = stands.says in
-      let regions = says.regions in
-      let at : round.at ≡ region_at l first = ap (λ (x : Round). x.at) round_is ∙ omega arith in
-      ap (λ (k : ℕ). slice_index w.words k) at ∙ regions.word first region ∙ ap word_of_region free ∙ free_word
+  -- where its claim finds a region in use, its objects and the asked one need more regions than it has
+  needs_by : (m : PassMachine R W E) → p.machine ≡ m → NeedsAt l w.told.log (let view = p.view in view.pass) (slice_index w.words (place_of (pass_asks kit by m))) m
+  needs_by (machine.New y) e =
+      λ len claims other. new_needs_more kit by laws l a c s records.notices k w.words y (subst (λ (m : PassMachine R W E). PassStands kit by l a c s records.notices (in_machine k m) w.words) e stands) len claims other
+  needs_by machine.Idle e = tt
+  needs_by machine.Retired e = tt
+  needs_by (machine.Poll x) e = tt
+  needs_by (machine.Read x) e = tt
+  needs_by (machine.Write x) e = tt
+  needs_by (machine.Exchange x) e = tt
+  needs_by (machine.Retire x) e = tt
 
-  frees_by : (m : PassMachine R W E) (command : Option Command) → IsAtCommand kit l (record p { machine = m }) command → (has_room m ≡ true → IsRoom l s (let view = view_by m p.view in view.pass) (room_by m p.room))
-      → FreesAt kit by (slice_index w.words (place_of (pass_asks kit by m))) m
-  frees_by (machine.New (make.Look plan round)) (Some (commands.New dst len)) at room = first_word_is round at.0.0 at.0.2 (room refl)
-  frees_by (machine.New (make.Claim plan round)) (Some (commands.New dst len)) at room = first_word_is round at.0.0 at.0.2 (room refl)
-  frees_by (machine.New (make.Fill address placement)) command at room = tt
-  frees_by (machine.New (make.Header placement)) command at room = tt
-  frees_by (machine.New (make.Ended end)) command at room = tt
-  frees_by machine.Idle command at room = tt
-  frees_by machine.Retired command at room = tt
-  frees_by (machine.Poll x) command at room = tt
-  frees_by (machine.Read x) command at room = tt
-  frees_by (machine.Write x) command at room = tt
-  frees_by (machine.Exchange x) command at room = tt
-  frees_by (machine.Retire x) command at room = tt
-  frees_by m None at room = absurd at
-  frees_by m (Some (commands.Get dst obj field)) at room = absurd at
-  frees_by m (Some (commands.Put obj field what)) at room = absurd at
-  frees_by m (Some (commands.Cas dst obj field expected value)) at room = absurd at
-  frees_by m (Some (commands.Copy dst src)) at room = absurd at
-  frees_by m (Some (commands.Drop dst)) at room = absurd at
-  frees_by m (Some commands.Poll) at room = absurd at
-
-  frees : FreesAt kit by n p.machine
-  frees = let thread = lw.threads party is in let own = stands.own in frees_by p.machine (command_at w party) thread.at own.room
+  needs : NeedsAt l w.told.log (let view = p.view in view.pass) n p.machine
+  needs = needs_by p.machine refl
 
   kept : Kept kit by laws l a c has.space has.notices w.told.log s.history history p k.seen k.mine k.ended (let own = stands.own in let told = own.told in told.count) n seal stands.layout in_layout few p.machine
   kept = kept_of kit by laws laws.cycle l a c s records.notices w.words k stands on
@@ -193,7 +171,7 @@ module _ {R W E M : Type 0} (kit : Kit R W E M) (by : Stepping R W E M) (laws : 
       let thread = lw.threads party is in
       let turn = has.turn in
       says_of kit by laws l a c has.space has.notices w.told.log s.history history p k.seen k.mine k.ended (let own = stands.own in let told = own.told in told.count) n seal stands.layout in_layout few p.machine (command_at w party)
-      (fits_at (command_at w party) refl) thread.at on frees kept (record { own = own_sealed; history = turn.history })
+      (fits_at (command_at w party) refl) thread.at on needs kept (record { own = own_sealed; history = turn.history })
 
   -- the record after its step, with the word that it finds
   abbrev then : ℕ → PassRecord R W E

@@ -32,8 +32,6 @@ module _ {R W E M : Type 0} (kit : Kit R W E M) where
     fit = is.fit;
     at = is.at;
     going = is.going;
-    room = is.room;
-    left = is.left;
   }
 
 pub owners_grow : (l : Sizes) (pass : ℕ) (log : List Ended) (call : Option Ended) → IsPass l pass → IsOf pass call → All (λ (e : Ended). IsPass l (pass_of e.call)) log → All (λ (e : Ended). IsPass l (pass_of e.call)) (logged log call)

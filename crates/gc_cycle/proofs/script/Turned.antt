@@ -113,12 +113,10 @@ module _ {R W E M : Type 0} (kit : Kit R W E M) (by : Stepping R W E M) where
     thread = lw.threads party is
 
     -- the thread after its step, before what comes of it
-    resting : IsResting l t p answers log
+    resting : IsResting t p answers log
     resting = record {
       number = thread.number;
       tells = tells_seen t (standing_of (pass_at w party)) answers log p.seen step.later step.within thread.tells;
-      room = thread.room;
-      left = thread.left;
     }
 
     -- ---- the world with its record set
@@ -149,7 +147,7 @@ module _ {R W E M : Type 0} (kit : Kit R W E M) (by : Stepping R W E M) where
             own = tt;
             heard = lw.log;
             answers_there = λ q other apart. refl;
-            thread = record { number = resting.number; tells = resting.tells; fit = thread.fit; at = goes.0; going = none; room = resting.room; left = resting.left };
+            thread = record { number = resting.number; tells = resting.tells; fit = thread.fit; at = goes.0; going = none };
           });
           moves = moves_next kit by w party step.looked step.later step.within w1.words passes w.told p None (record {
             there = there;
@@ -198,7 +196,7 @@ module _ {R W E M : Type 0} (kit : Kit R W E M) (by : Stepping R W E M) where
     missing : length answers < length t.commands → party ≤ length w.commands
     missing below = let script = lw.script in omega (arith, is.1, script.threads)
 
-    answering : (q : PassRecord R W E) (answer : Answer) (call : Option Ended) → length answers < length t.commands → IsAnswered l t q answers log made p.seen answer call → w.told.agains ≡ counts_after kit by w party
+    answering : (q : PassRecord R W E) (answer : Answer) (call : Option Ended) → length answers < length t.commands → IsAnswered t q answers log made p.seen answer call → w.told.agains ≡ counts_after kit by w party
         → IsTurned w party (answered_with kit w1 party q answer call)
     answering q answer call below is_answered counts =
         let x = or_else (started kit l q (request_at t (length answers + 1))) q in
@@ -257,21 +255,21 @@ module _ {R W E M : Type 0} (kit : Kit R W E M) (by : Stepping R W E M) where
           ap (counted kit by w party) (sym is_sequel) ∙ ap (λ o. counted kit by w party (sequel_at kit by w party (Some end) o)) (sym at)
           ∙ ap (λ o. counted kit by w party (sequel_at kit by w party o (command_at w party))) (sym over)
 
-      begun : (rest : IsResting l t q answers log) (request : Request) → Asks c request → made ≡ false → w.told.agains ≡ counts_after kit by w party
+      begun : (rest : IsResting t q answers log) (request : Request) → Asks c request → made ≡ false → w.told.agains ≡ counts_after kit by w party
           → (o : Option (PassRecord R W E)) → started kit l q request ≡ o → IsTurned w party (access_begun kit w1 party q o)
       begun rest request asks none counts None is_none =
           let a = begins_not_at kit by laws l t q answers log rest lw.log c at request asks is_none in
-          let b : IsAnswered l t q answers log false p.seen NotLink None = record { number = a.number; tells = a.tells; room = a.room; left = a.left; own = a.own; heard = a.heard; call_is = a.call_is; seen_is = end_seen p end } in
-          answering q NotLink None below (subst (λ (x : Bool). IsAnswered l t q answers log x p.seen NotLink None) (sym none) b) counts
+          let b : IsAnswered t q answers log false p.seen NotLink None = record { number = a.number; tells = a.tells; own = a.own; heard = a.heard; call_is = a.call_is; seen_is = end_seen p end } in
+          answering q NotLink None below (subst (λ (x : Bool). IsAnswered t q answers log x p.seen NotLink None) (sym none) b) counts
       begun rest request asks none counts (Some next) is_some =
           quiet next w.told refl refl (same_room next) (begins_at kit by laws l t q answers log rest c at fits words short request asks next is_some) none
           (begun_seen q (machine_for kit l q request) next is_some ∙ end_seen p end) counts
 
-      follows : (s : Sequel) → sequel_of (changes_now w) c (face_of q) end ≡ s → SequelKeeps l t q answers log made c s → IsTurned w party (followed_at kit w1 party q s)
+      follows : (s : Sequel) → sequel_of (changes_now w) c (face_of q) end ≡ s → SequelKeeps t q answers log made c s → IsTurned w party (followed_at kit w1 party q s)
       follows sequel.Nothing is_sequel keeps = absurd keeps
       follows (sequel.Starts request) is_sequel keeps = begun keeps.0 request keeps.1 keeps.2 (counts_by (sequel.Starts request) is_sequel) (started kit l q request) refl
       follows (sequel.Answered put answer call) is_sequel keeps =
-          let a = subst (λ (n : ℕ). IsAnswered l t (in_front (with_put q put) call) answers log made n answer call) (end_seen p end) keeps in
+          let a = subst (λ (n : ℕ). IsAnswered t (in_front (with_put q put) call) answers log made n answer call) (end_seen p end) keeps in
           answering (in_front (with_put q put) call) answer call below a (counts_by (sequel.Answered put answer call) is_sequel)
       follows (sequel.Retries why) is_sequel keeps =
           let told = record w.told { agains = with_refusal w.told.agains (place_of_command w party) why } in
@@ -281,7 +279,7 @@ module _ {R W E M : Type 0} (kit : Kit R W E M) (by : Stepping R W E M) where
           (polls_again kit l t q answers log c at keeps.0) keeps.1 (end_seen p end) (counts_by (sequel.Retries why) is_sequel)
 
       concludes : EndSays l log p c end made → IsTurned w party (followed_at kit w1 party q (sequel_of (changes_now w) c (face_of q) end))
-      concludes says = follows (sequel_of (changes_now w) c (face_of q) end) refl (sequel_keeps l t p answers log lw.log resting made c end at says)
+      concludes says = follows (sequel_of (changes_now w) c (face_of q) end) refl (sequel_keeps l t p answers log lw.log resting refl made c end at says)
 
     -- after its last command it retires
     retires : command_at w party ≡ None → (end : MachineEnd) → ended_of kit p.machine ≡ Some end → IsRetired end → made ≡ false → IsTurned w party (put_pass w1 party (with_end p end))
@@ -290,7 +288,7 @@ module _ {R W E M : Type 0} (kit : Kit R W E M) (by : Stepping R W E M) where
         let here : IsAtCommand kit l x (slice_get t.commands (length answers)) = subst (IsAtCommand kit l x) (sym at) tt in
         let counts : w.told.agains ≡ counts_after kit by w party =
         ap (λ o. counted kit by w party (sequel_at kit by w party (Some ends.Retire) o)) (sym at) ∙ ap (λ o. counted kit by w party (sequel_at kit by w party o (command_at w party))) (sym over) in
-        quiet x w.told refl refl (same_room x) (record { number = resting.number; tells = resting.tells; fit = thread.fit; at = here; going = refl; room = resting.room; left = resting.left }) none refl counts
+        quiet x w.told refl refl (same_room x) (record { number = resting.number; tells = resting.tells; fit = thread.fit; at = here; going = refl }) none refl counts
     retires at (ends.Poll end) over retired none = absurd retired
     retires at (ends.New end) over retired none = absurd retired
     retires at (ends.Read end) over retired none = absurd retired

@@ -35,7 +35,7 @@ module _ {R W E M : Type 0} (kit : Kit R W E M) (by : Stepping R W E M) (laws : 
       let thread = lw.threads party is in
       let t : Thread = thread_of w party in
       let script = lw.script in
-      let rest : IsResting w.layout t (pass_at w party) (answers_at w.told.answers party) w.told.log = record { number = thread.number; tells = thread.tells; room = thread.room; left = thread.left } in
+      let rest : IsResting t (pass_at w party) (answers_at w.told.answers party) w.told.log = record { number = thread.number; tells = thread.tells } in
       few kit by laws w.layout t (pass_at w party) (answers_at w.told.answers party) w.told.log rest (omega (arith, one_below w.commands (party - 1), script.few))
 
   -- a thread's step

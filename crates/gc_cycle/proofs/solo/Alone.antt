@@ -187,7 +187,7 @@ module _ {R W E M : Type 0} (kit : Kit R W E M) (by : Stepping R W E M) (alone :
       waits : w.collector ≡ collector_of kit w.layout cycles salt
       waits = elim solo.collector [ inl start ↦ start | inr idle ↦ absurd (cc (idle.0 first is_pass, runs)) ]
 
-      goes : Goes kit by alone w first (left kit by (machine_at w first)) new
+      goes : Goes kit by alone w first (left kit by w.layout.quota (machine_at w first)) new
       goes =
           let asks_on : asks_at kit by w first ≢ Ended = is_ended-false (asks_at kit by w first) runs in
           let threads = lw.script.threads in
@@ -228,11 +228,13 @@ module _ {R W E M : Type 0} (kit : Kit R W E M) (by : Stepping R W E M) (alone :
       -- another thread has as much to do as before
       other_to_do : (q : ℕ) → 1 ≤ q → q ≢ first → to_do kit by new q ≡ to_do kit by w q
       other_to_do q least apart =
-          let machine : left kit by (machine_at new q) ≡ left kit by (machine_at w q) = ap (λ (x : PassRecord R W E). left kit by x.machine) (goes.passes q least apart) in
+          let machine : left kit by w.layout.quota (machine_at new q) ≡ left kit by w.layout.quota (machine_at w q) = ap (λ (x : PassRecord R W E). left kit by w.layout.quota x.machine) (goes.passes q least apart) in
           let count : answered new q ≡ answered w q = ap length (goes.answers q least apart) in
           let size : length (commands_at new.commands q) ≡ length (commands_at w.commands q) = ap (λ (x : List (List Command)). length (commands_at x q)) goes.commands in
-          ap (λ k. left_with k (answered new q) (left kit by (machine_at new q))) size ∙ (ap (λ k. left_with (length (commands_at w.commands q)) k (left kit by (machine_at new q))) count
-          ∙ ap (λ k. left_with (length (commands_at w.commands q)) (answered w q) k) machine)
+          let quota : ℕ = w.layout.quota in
+          ap (λ (l : Sizes). left_with l.quota (length (commands_at new.commands q)) (answered new q) (left kit by l.quota (machine_at new q))) goes.layout
+          ∙ ap (λ k. left_with quota k (answered new q) (left kit by quota (machine_at new q))) size ∙ (ap (λ k. left_with quota (length (commands_at w.commands q)) k (left kit by quota (machine_at new q))) count
+          ∙ ap (λ k. left_with quota (length (commands_at w.commands q)) (answered w q) k) machine)
 
       each_to_do : (q : ℕ) → 1 ≤ q → to_do kit by new q ≤ to_do kit by w q
       each_to_do q least = elim (eqb_tells q first) [

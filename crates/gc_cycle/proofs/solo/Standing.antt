@@ -35,104 +35,32 @@ use Rattle.lawful_records.specs.Records.{view_by, room_by}
 use Rattle.lawful_records.specs.LawfulRecords.{IsMachine}
 use Rattle.lawful_records.proofs.turns.Stepping.{own_there}
 use Rattle.gc_cycle.specs.Worlds.{State, pass_at, asks_at}
-use Rattle.gc_cycle.specs.Lawful.{Lawful, IsAt, IsAfter, IsAtCommand, IsMakingOf, known_in, no_room}
+use Rattle.gc_cycle.specs.Lawful.{Lawful, known_in}
 use Rattle.gc_cycle.proofs.Acknowledging.{pass_record, collector_record, acknowledged, view_going}
 use Rattle.gc_cycle.proofs.solo.CollectorEnds.{passed_from_start, no_mark_at_start}
 use Rattle.gc_cycle.proofs.solo.Finding.{PassFinds, pass_finds}
 use Rattle.gc_cycle.proofs.solo.Left.{IsUnhindered, asks}
 use Rattle.gc_cycle.proofs.solo.Turns.{IsUnmarked, machine_at}
 
--- ---- a thread that makes an object
-
-module _ {R W E : Type 0} where
-  -- a pass that looks at a region or claims one has none yet, and it is at the first of its own
-  abbrev IsUnclaimed : Sizes → PassRecord R W E → PassMachine R W E → Type 0
-  IsUnclaimed l r (machine.New (make.Look plan round)) = (r.room ≡ no_room) × (round ≡ round_of l r.view.pass None)
-  IsUnclaimed l r (machine.New (make.Claim plan round)) = (r.room ≡ no_room) × (round ≡ round_of l r.view.pass None) × (plan.old_at ≡ None)
-  IsUnclaimed l r (machine.New (make.Fill at placement)) = ⊥
-  IsUnclaimed l r m = Unit {0}
-
-  making : (l : Sizes) (r : PassRecord R W E) (len : ℕ) (m : NewMachine) → IsMakingOf l r.view.pass r.room r.made len m → IsUnclaimed l r (machine.New m)
-  making l r len (make.Look plan round) is = (is.0, is.2)
-  making l r len (make.Claim plan round) is = (is.0, is.2, ap (λ (x : NewPlan). x.old_at) is.1)
-  making l r len (make.Fill at placement) is = absurd is
-  making l r len (make.Header placement) is = tt
-  making l r len (make.Ended end) is = tt
-
 module _ {R W E M : Type 0} (kit : Kit R W E M) where
-  making_at : (l : Sizes) (r : PassRecord R W E) (c : Command) (m : NewMachine) → IsAt kit l r c (machine.New m) → IsUnclaimed l r (machine.New m)
-  making_at l r (commands.New dst len) m at = making l r len m at.0
-  making_at l r (commands.Get dst obj field) m at = absurd at
-  making_at l r (commands.Put obj field what) m at = absurd at
-  making_at l r (commands.Cas dst obj field expected value) m at = absurd at
-  making_at l r (commands.Copy dst src) m at = absurd at
-  making_at l r (commands.Drop dst) m at = absurd at
-  making_at l r commands.Poll m at = absurd at
-
-  unclaimed_at : (l : Sizes) (r : PassRecord R W E) (c : Command) (m : PassMachine R W E) → IsAt kit l r c m → IsUnclaimed l r m
-  unclaimed_at l r c machine.Idle at = tt
-  unclaimed_at l r c (machine.Poll m) at = tt
-  unclaimed_at l r c (machine.New m) at = making_at l r c m at
-  unclaimed_at l r c (machine.Read m) at = tt
-  unclaimed_at l r c (machine.Write m) at = tt
-  unclaimed_at l r c (machine.Exchange m) at = tt
-  unclaimed_at l r c (machine.Retire m) at = tt
-  unclaimed_at l r c machine.Retired at = tt
-
-  unclaimed_after : (l : Sizes) (r : PassRecord R W E) (m : PassMachine R W E) → IsAfter kit m → IsUnclaimed l r m
-  unclaimed_after l r machine.Idle after = tt
-  unclaimed_after l r (machine.Poll m) after = tt
-  unclaimed_after l r (machine.New m) after = absurd after
-  unclaimed_after l r (machine.Read m) after = tt
-  unclaimed_after l r (machine.Write m) after = tt
-  unclaimed_after l r (machine.Exchange m) after = tt
-  unclaimed_after l r (machine.Retire m) after = tt
-  unclaimed_after l r machine.Retired after = tt
-
-  unclaimed : (l : Sizes) (r : PassRecord R W E) (c : Option Command) → IsAtCommand kit l r c → IsUnclaimed l r r.machine
-  unclaimed l r None at = unclaimed_after l r r.machine at
-  unclaimed l r (Some c) at = unclaimed_at l r c r.machine at
-
   -- ---- its next step
 
-  free_word : (x : RegionWord) → x ≡ regions.Free → word_of_region x ≡ 0
-  unfolding word_of_region
-  free_word x free = ap word_of_region free
-
   module _ (by : Stepping R W E M) (l : Sizes) (words : List ℕ) (s : Space) (n : Notices) (c : Cycle) (k : PassKnown R W E)
-      (fits : IsLayout l) (is : IsPass l (let view = k.pass.view in view.pass)) (says : Says l (reading words) s n)
+      (says : Says l (reading words) s n)
       (acked : (let view = k.pass.view in view.acked) ≡ n.phase) (unmarked : IsUnmarked k.pass) where
-    -- where its machine leaves it its room, the space has it
-    abbrev IsRoomy : PassMachine R W E → Type 0
-    IsRoomy m = has_room m ≡ true → IsRoom l s (let view = view_by m k.pass.view in view.pass) (room_by m k.pass.room)
-
-    -- the first region of a pass that has none yet
-    first_free : (round : Round) → k.pass.room ≡ no_room → round ≡ round_of l (let view = k.pass.view in view.pass) None → IsRoom l s (let view = k.pass.view in view.pass) k.pass.room → reading words round.at ≡ 0
-    first_free round none round_is room =
-        let pass : ℕ = let view = k.pass.view in view.pass in
-        let first : ℕ = first_own l pass in
-        let place : round.at ≡ region_at l first = ap (λ (x : Round). x.at) round_is in
-        let own : IsOwn l pass first = (omega arith, omega arith) in
-        let unused = room.free (ap (λ (x : Room). x.region) none) first own in
-        ap (reading words) place ∙ says.regions.word first (own_there l pass first fits is own) ∙ free_word (s.region first) unused
-
-    unhindered_at : (m : PassMachine R W E) → IsMachine kit l c s n k m → IsUnclaimed l k.pass m → IsRoomy m → PassFinds kit by words m → IsUnhindered kit by words m
-    unhindered_at machine.Idle at new roomy found = tt
-    unhindered_at (machine.Poll (poll.Phase q)) at new roomy found = (cc (says.notices.phase), ap (λ (v : PassView). v.mark) at.view_is ∙ unmarked)
-    unhindered_at (machine.Poll (poll.Mark q word)) at new roomy found = absurd (let with = at.0 in with.acked_not acked)
-    unhindered_at (machine.Poll (poll.Follow q word register birth address)) at new roomy found = absurd (let with = at.0 in with.acked_not acked)
-    unhindered_at (machine.Poll (poll.Acknowledge q word mark)) at new roomy found = absurd (let with = at.0 in with.acked_not acked)
-    unhindered_at (machine.Poll (poll.Ended end)) at new roomy found = tt
-    unhindered_at (machine.New (make.Look plan round)) at new roomy found = first_free round new.0 new.1 (roomy refl)
-    unhindered_at (machine.New (make.Claim plan round)) at new roomy found = (first_free round new.0 new.1 (roomy refl), new.2)
-    unhindered_at (machine.New (make.Fill address placement)) at new roomy found = absurd new
-    unhindered_at (machine.New (make.Header placement)) at new roomy found = tt
-    unhindered_at (machine.New (make.Ended end)) at new roomy found = tt
-    unhindered_at (machine.Read m) at new roomy found = tt
-    unhindered_at (machine.Write m) at new roomy found = tt
-    unhindered_at (machine.Exchange m) at new roomy found = found
-    unhindered_at (machine.Retire m) at new roomy found = tt
-    unhindered_at machine.Retired at new roomy found = tt
+    unhindered_at : (m : PassMachine R W E) → IsMachine kit l c s n k m → PassFinds kit by words m → IsUnhindered kit by words m
+    unhindered_at machine.Idle at found = tt
+    unhindered_at (machine.Poll (poll.Phase q)) at found = (cc (says.notices.phase), ap (λ (v : PassView). v.mark) at.view_is ∙ unmarked)
+    unhindered_at (machine.Poll (poll.Mark q word)) at found = absurd (let with = at.0 in with.acked_not acked)
+    unhindered_at (machine.Poll (poll.Follow q word register birth address)) at found = absurd (let with = at.0 in with.acked_not acked)
+    unhindered_at (machine.Poll (poll.Acknowledge q word mark)) at found = absurd (let with = at.0 in with.acked_not acked)
+    unhindered_at (machine.Poll (poll.Ended end)) at found = tt
+    unhindered_at (machine.New m) at found = tt
+    unhindered_at (machine.Read m) at found = tt
+    unhindered_at (machine.Write m) at found = tt
+    unhindered_at (machine.Exchange m) at found = found
+    unhindered_at (machine.Retire m) at found = tt
+    unhindered_at machine.Retired at found = tt
 
   -- ---- of a lawful world
 
@@ -175,5 +103,5 @@ module _ {R W E M : Type 0} (kit : Kit R W E M) where
         let acked : r.view.acked ≡ announced_of w.collector = said.passed running (omega (arith, is.1, passed)) in
         let phase : announced_of w.collector ≡ lw.records.notices.phase = ap announced_of collects.machine ∙ sym lw.records.announced in
         unhindered_at by w.layout w.words lw.records.space lw.records.notices (cycle_of lw.records.collector) (known_in w r)
-        lw.records.layout (subst (IsPass w.layout) (sym own) is) lw.records.says (acked ∙ phase) (none_marked w lw p is cycles salt start)
-        r.machine its.machine (unclaimed w.layout r _ thread.at) its.room (pass_finds kit by laws w lw p is on)
+        lw.records.says (acked ∙ phase) (none_marked w lw p is cycles salt start)
+        r.machine its.machine (pass_finds kit by laws w lw p is on)

@@ -1,12 +1,10 @@
 //! The world of a script at its start.
 
-ghost use Rattle.std.specs.Prelude.{◌≡◌, ◌≤◌, ◌↔◌, ℕ, length, IsTrue, IfOk};
-ghost use Rattle.std.specs.List.{All};
+ghost use Rattle.std.specs.Prelude.{◌≡◌, ◌≤◌, length, IfOk};
 ghost use Rattle.heap_words.specs.Layouts.{IsLayout, IsPass};
-ghost use Rattle.heap_script.specs.Allowed.{commands_of};
-ghost use Rattle.heap_script.specs.Scripts.{Fits, CommandFits};
+ghost use Rattle.heap_script.specs.Scripts.{Fits};
 ghost use Rattle.heap_script.specs.Commands.{commands_at};
-ghost use Rattle.gc_cycle.specs.Lawful.{Lawful, rooms_of, room_of as room_of_command};
+ghost use Rattle.gc_cycle.specs.Lawful.{Lawful};
 ghost use Rattle.gc_cycle.specs.Worlds.{opening_words as opening_words_of, opening_registers as opening_registers_of, fresh_pass as fresh_pass_of, opening_pass as opening_pass_of, opening_passes as opening_passes_of, opening_state};
 
 use super::World;
@@ -15,14 +13,11 @@ use barriers::{Copier, PassMachine, PassRecord, Request, Room, start};
 use call_steps::{OutOfMemory, PlainWords, Step};
 use cycle_journal::CANDIDATES;
 use handshakes::PassView;
-use heap_script::{Command, Commands, Line, Script, Told};
+use heap_script::{Commands, Script, Told};
 use heap_words::{FieldWord, Layout};
 use lawful_records::{Awaited, COMMON, Stage};
 use space_reclaim::RegionWord;
 use std::alloc::Global;
-
-/// The words of a region.
-const REGION_WORDS: u32 = 64;
 
 /// All words are 0, but region 0 is Filled and has the object that is there from the start.
 fn opening_words(alloc: Global, layout: &Layout) -> Result<PlainWords, OutOfMemory>
@@ -126,33 +121,6 @@ fn layout_of(script: &Script) -> &Layout
     &script.layout
 }
 
-/// The words of a region that a command's object takes.
-fn room_of(command: Command) -> u32
-    requires { CommandFits command }
-    ensures value { result ≡ room_of_command command }
-    ensures small { result ≤ 31 }
-{
-    match command {
-        Command::New { len, .. } => len + 1,
-        _ => 0,
-    }
-}
-
-/// The words that the objects of a thread take.
-fn room_of_thread(lines: &[Line], thread: u32) -> u32
-    requires count { length lines.now ≤ 65536 }
-    requires fits { All (λ l. CommandFits l.command) lines.now }
-    ensures { result ≡ rooms_of (commands_of thread lines.now) }
-{
-    let mut room = 0;
-    for line in lines {
-        if line.thread == thread {
-            room += room_of(line.command);
-        }
-    }
-    room
-}
-
 impl<P: Copier> World<P>
 where
     P::Read: Copy,
@@ -160,26 +128,9 @@ where
     P::Exchange: Copy,
     P::Move: Copy,
 {
-    /// Whether the objects of each thread fit one region.
-    pub fn has_room_for(script: &Script) -> bool
-        requires { Fits script.now }
-        ensures { IsTrue result ↔ ((t : ℕ) → IsPass script.now.layout t
-            → rooms_of (commands_of t script.now.lines) ≤ 64) }
-    {
-        let threads = layout_of(script).passes();
-        for index in 0..threads {
-            if room_of_thread(&script.lines, index + 1) > REGION_WORDS {
-                return false;
-            }
-        }
-        true
-    }
-
     /// The world of a script at its start. All memory is taken here. The salt draws the marks of the cycles.
     pub fn new(alloc: Global, script: &Script, salt: u64) -> Result<World<P>, OutOfMemory>
-        requires fits { Fits script.now }
-        requires rooms { (t : ℕ) → IsPass script.now.layout t
-            → rooms_of (commands_of t script.now.lines) ≤ 64 }
+        requires { Fits script.now }
         ensures opening { IfOk result (λ w. w ≡ opening_state P.kit script.now salt) }
         ensures lawful { IfOk result (λ w. Lawful P.kit w) }
     {

@@ -10,8 +10,8 @@ opening_passes-requires g c = ap length c.in_ok-commands.ensures ∙ length-comm
 pub opening-requires : goal.opening-requires
 opening-requires g c =
     let lines = c.deref.ensures.value ∙ ap (λ s. s.lines) c.script.view_is in
-    let few : length c.deref.result.now ≤ 65536 = omega (arith, ap length lines, c.requires.fits.count) in
+    let few : length c.deref.result.now ≤ 65536 = omega (arith, ap length lines, c.requires.count) in
     subst (λ commands. total commands < 4294967296) (sym c.in_ok-commands.ensures) (few_commands c.passes.result c.deref.result.now few)
 
 pub returns-clause-lawful : goal.returns-clause-lawful
-returns-clause-lawful g c = lawful_at_start g.P.Copier.kit _ g.met.P.Copier.laws c.args.script.now c.args.salt c.requires.fits c.requires.rooms _ (search rules)
+returns-clause-lawful g c = lawful_at_start g.P.Copier.kit _ g.met.P.Copier.laws c.args.script.now c.args.salt c.requires _ (search rules)
