@@ -1,2 +1,4 @@
 pub mod Moved
 pub mod Causes
+pub mod FixWalks
+pub mod RootFixing

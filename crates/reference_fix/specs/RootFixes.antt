@@ -52,6 +52,13 @@ end_of (fix.Header at word to) = None
 end_of (fix.Store at put) = None
 end_of fix.Ended = Some tt
 
+-- the fix of the root word at this address, which has not ended
+abbrev pub IsRootFixOf : ℕ → RootFixMachine → Type 0
+IsRootFixOf at (fix.Root place) = place ≡ at
+IsRootFixOf at (fix.Header place word to) = (place ≡ at) × (leads_to (field_at word) ≡ Some to)
+IsRootFixOf at (fix.Store place put) = place ≡ at
+IsRootFixOf at fix.Ended = ⊥
+
 -- Whatever words it finds: it loads the root word and the header to which the link there leads; a store puts the link to the object's new place, and comes exactly where there is one; and then it has ended.
 pub record FixesRoot (at : ℕ) (m : RootFixMachine) : Type 0 where
   pub loads : asks_of m ≡ Load at

@@ -3,10 +3,12 @@
 #![tactic(auto)]
 
 mod field_fix;
+mod fix_walk;
 mod moved_link;
 mod root_fix;
 
 pub use field_fix::FixMachine;
+pub use fix_walk::{Area, Cursor, FixWalkMachine};
 pub use root_fix::RootFixMachine;
 
 #[cfg(test)]

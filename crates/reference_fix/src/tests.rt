@@ -123,3 +123,44 @@ fn fixes_a_root_word(rt: HostRuntime) -> Result<(), Fail> {
     }
     Ok(())
 }
+
+// Of 1 pass with 1 own region and 2 in the pool, whose words begin at 15, 79 and 143: `#0.1` has moved from the
+// first word of region 0 to that of region 1, and an object with two fields stands in region 2. A field of each
+// leads to where `#0.1` was.
+#[test]
+fn walks_through_all_fields(rt: HostRuntime) -> Result<(), Fail> {
+    let layout = Layout::new(1, 1, 2, 0)?;
+    let mut words = PlainWords::zeros(rt.alloc(), 207)?;
+    for (at, word) in [
+        (12, 2),
+        (15, FORWARD),
+        (16, LEFT),
+        (13, 2),
+        (79, PLAIN),
+        (80, LEFT),
+        (14, 2),
+        (143, 0x1041),
+        (144, 7),
+        (145, LEFT),
+    ] {
+        put(&rt, &mut words, at, word);
+    }
+    let mut machine = FixWalkMachine::new(&layout);
+    for _ in 0..23 {
+        assert_eq!(rt; machine.end(), None);
+        match machine.ask() {
+            Step::Load { at } | Step::Exchange { at, .. } => assert!(rt; at < words.len()),
+            Step::Store { .. } | Step::Add { .. } | Step::Sub { .. } | Step::Ended => {
+                assert!(rt; false)
+            }
+        }
+        machine.feed(words.apply(machine.ask()));
+    }
+    assert_eq!(rt; machine.end(), Some(()));
+    assert!(rt; words.len() == 207);
+    for (at, word) in [(16, LEFT), (80, COPIED), (144, 7), (145, COPIED)] {
+        assert!(rt; at < 207);
+        assert_eq!(rt; words.word(at), word);
+    }
+    Ok(())
+}
