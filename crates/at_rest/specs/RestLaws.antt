@@ -19,6 +19,8 @@ use Rattle.barriers.specs.Moves.{Carried, Idles, Looks, Lays, IsAtField, job_of,
 use Rattle.barriers.specs.Protocols.{Wants, Answered, seen_after}
 use Rattle.barriers.specs.ProtocolLaws.{At, StepEnd, GoesTo, MoveEnd, IsFresh, Arrives, ProtocolLaws}
 use Rattle.barriers.specs.PlainAnswerLaws.{Tells, look_of, original_answered, original_lacking, lacking_none, plainly_answered, plainly_wants, plainly_lacking, where_inside, where_found, original_found, where_refused}
+use Rattle.barriers.specs.Stances.{Stance}
+use Rattle.barriers.specs.CallCloses.{IsTasked, IsClosed, where_closed, original_closed, plainly_closed}
 use Rattle.barriers.specs.PlainCallLaws.{spot_at, stays_goes, original_stays, plainly_goes, plainly_holds, where_goes, where_holds}
 use Rattle.barriers.specs.PlainCalls.{no_field, to_original, plainly_fed}
 use Rattle.at_rest.specs.RestTable.{rest_fed, IsAtRest, RestShape, RestOwn, RestHead, RestMakes, RestPhases, RestRight, at_rest}
@@ -44,6 +46,10 @@ rest_goes c side x (Swaps z t v n) s found at own = plainly_goes side.acked side
 rest_goes c side x (Follows z t m) s found at own = absurd (let gone : None ≡ Some s = at in cc)
 rest_goes c side x (Over z t end) s found at own = absurd (let gone : None ≡ Some s = at in cc)
 rest_goes c side x k s found at own = absurd own
+
+rest_closes : (acked : Stance) (own : Option FieldWord) (k : Known) (s : Spot) (found : Finds) → at_field k ≡ Some s → IsTasked k → IsClosed acked (rest_fed acked own k found)
+rest_closes acked own (Loads_header z t) s (Header_word y colour len) at is = where_closed acked z t len (to_original z t) (original_closed acked z t)
+rest_closes acked own k s found at is = plainly_closed acked k s found at is
 
 rest_makes : (c : Cycle) (side : Side) (x : Here) (k : Known) (found : Finds) → RestOwn c side x k → RestMakes (event k found)
 rest_makes c side x k found own = grind (arith, own)
@@ -265,6 +271,7 @@ rest_laws = record {
     begin_bare = λ acked cycle own s t. refl;
     step = step;
     goes = rest_goes;
+    closes = rest_closes;
     bare = λ c side x y k bare own. rest_other c side x y k own;
     stays = λ c side h b f x w e k makes may dated past target fits shape own. rest_stays c side x e k own;
   };

@@ -1,5 +1,5 @@
 -- The cycle as copiers see it, a pass's side of it, and the collector's steps that change no object.
-use Rattle.std.specs.Prelude.{◌≡◌, ◌≢◌, ℕ, Bool, true, false, if◌then◌else◌, List, Option, Some, None}
+use Rattle.std.specs.Prelude.{◌≡◌, ◌≢◌, ℕ, Bool, true, false, List, Option, Some, None}
 use Rattle.heap_words.specs.declared.field_word.FieldWord.{FieldWord}
 use Rattle.heap_words.specs.declared.field_word.FieldWord.TheVariants.{Num}
 use Rattle.heap_history.specs.declared.call.Call.{Call}

@@ -1,4 +1,5 @@
 pub mod Accesses
+pub mod CallCloses
 pub mod CallTurns
 pub mod Causes
 pub mod CycleLaws

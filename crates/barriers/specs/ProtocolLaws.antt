@@ -18,6 +18,7 @@ use Rattle.barriers.specs.Cycles.{Cycle, Side, Phasing, phased, MayTurn, MayGo, 
 use Rattle.barriers.specs.Knowns.{Task, Known, Over, Refused, Finds, Header_word, Ending, at_field, has_field, has_found, spot_of, task_of, copy_of, wide_of, head_of, hand_of, writes_yet, finds, puts, wanted, looks, front}
 use Rattle.barriers.specs.Events.{Event, Quiet, Keep, Write, Write_copy, Widen, Seal, Pass_on, Seal_on, Fix_word, after, after_copy, May, event, IsStill}
 use Rattle.barriers.specs.Moves.{Carried, Looks, Lays, Gives_up, Forwards, IsAtField, job_of, field_of, move_finds, move_event}
+use Rattle.barriers.specs.CallCloses.{IsTasked, IsClosed}
 use Rattle.barriers.specs.Protocols.{Protocol, Wants, Answered, Suits, From, TargetIs, has_made, seen_after, word_found}
 
 -- a machine of a pass, at a field that it names: here x, in the copy w
@@ -126,6 +127,8 @@ pub record CallLaws (P : Protocol) : Type 0 where
   -- its own step
   pub step : (c : Cycle) (side : Side) (h : List Call) (s : Spot) (x : Here) (w : FieldWord) (k : Known) → ((past : List Call) → x.seal ≡ Some past → Before past h) → At P c side h s x w k → StepEnd P c side h s x k (finds c.phase x w k)
   pub goes : (c : Cycle) (side : Side) (x : Here) (k : Known) (s : Spot) (found : Finds) → at_field k ≡ Some s → P.Own c side x k → GoesOn P side.acked side.own k found
+  -- only a write exchanges, and at Fix it has no link in hand that it has not followed
+  pub closes : (acked : Stance) (own : Option FieldWord) (k : Known) (s : Spot) (found : Finds) → at_field k ≡ Some s → IsTasked k → IsClosed acked (P.fed acked own k found)
   -- before it has found that the object has the field, its row says nothing of the object
   pub bare : (c : Cycle) (side : Side) (x y : Here) (k : Known) → has_field k ≡ false → P.Own c side x k → P.Own c side y k
   -- a step of anybody else, at the same field

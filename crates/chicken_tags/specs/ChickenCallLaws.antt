@@ -17,9 +17,11 @@ use Rattle.barriers.specs.Knowns.{Task, Reads, Writes, Exchanges, Known, Loads_h
 use Rattle.barriers.specs.Events.{Event, Write, Write_copy, after, May, keep_event, put_event, event}
 use Rattle.barriers.specs.Protocols.{TargetIs, has_made, seen_after}
 use Rattle.barriers.specs.ProtocolLaws.{At, StepEnd, Dated, CallLaws}
+use Rattle.barriers.specs.CallCloses.{original_closed}
 use Rattle.barriers.specs.PlainCalls.{to_original, to_copy, plainly_fed}
 use Rattle.barriers.specs.PlainCallLaws.{spot_at, closes_cases, plainly_holds, where_holds}
 use Rattle.barriers.specs.PlainAnswerLaws.{Tells}
+use Rattle.tagged_calls.specs.CloseLaws.{tagged_closed}
 use Rattle.tagged_calls.specs.TaggedCalls.{as_at_rest, tagged_of, by_header, by_kept}
 use Rattle.tagged_calls.specs.TaggedTable.{MayStore, InTime, IsUnmarked, HasNoMark}
 use Rattle.tagged_calls.specs.TaggedTableLaws.{store_stays, store_may, store_place, unmarked, time_stays, in_time, sealed_value, front_past, front_later}
@@ -314,6 +316,7 @@ chicken_calls = record {
   begin_bare = λ acked cycle own s t. refl;
   step = step;
   goes = λ c side x k s found at own. tagged_goes as_at_rest goes_on side.acked side.own k found (called c side x k s at own);
+  closes = λ acked own k s found at is. tagged_closed as_at_rest acked (λ z t wide. original_closed acked z t) k s found at is;
   bare = bare_stays;
   stays = λ c side h b f x w e k makes may dated past target fits shape own. stays c side h x e k makes may dated past fits own;
 }

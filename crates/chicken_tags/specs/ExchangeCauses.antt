@@ -15,8 +15,6 @@ use Rattle.barriers.specs.declared.exchange.ExchangeMachine.TheVariants as rest_
 use Rattle.barriers.specs.declared.plain_exchange.PlainExchange.TheVariants as plain
 use Rattle.barriers.specs.Causes.{LacksField, len_at, ExchangeEndsFor, IsExchangeFor, exchange_keeps, exchange_ends}
 use Rattle.barriers.specs.Exchanges as rest_exchanges
-use Rattle.tagged_calls.specs.declared.location.Keep.{Keep}
-use Rattle.tagged_calls.specs.declared.location.Location.TheVariants as location
 use Rattle.tagged_calls.specs.Locations.{location_in}
 use Rattle.tagged_calls.specs.Placeds.{placed_at}
 use Rattle.tagged_calls.specs.TaggedCauses.{header_load, header_exchange, Leads, IsApproach, EndsPlaced, IsPlacedFor, PlacedIs, placed_keeps, placed_ends, led_so, lacks, lacks_no_more, turned_so, led_inside}

@@ -11,7 +11,6 @@ use Rattle.barriers.specs.declared.ends.ReadEnd.TheVariants as read_end
 use Rattle.barriers.specs.declared.read.ReadMachine.TheVariants as rest_read
 use Rattle.barriers.specs.Causes.{LacksField, len_at, ReadEndsFor, IsReadFor, read_keeps, read_ends}
 use Rattle.barriers.specs.Reads as rest_reads
-use Rattle.tagged_calls.specs.declared.location.Location.TheVariants as location
 use Rattle.tagged_calls.specs.Locations.{location_in}
 use Rattle.tagged_calls.specs.Placeds.{placed_at}
 use Rattle.tagged_calls.specs.TaggedCauses.{header_load, Leads, IsApproach, EndsPlaced, IsPlacedFor, PlacedIs, placed_keeps, placed_ends, led_so, lacks, lacks_no_more}

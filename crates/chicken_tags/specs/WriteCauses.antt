@@ -12,14 +12,11 @@ use Rattle.barriers.specs.declared.write.WriteMachine.{WriteMachine}
 use Rattle.barriers.specs.declared.write.WriteMachine.TheVariants as rest_write
 use Rattle.barriers.specs.Causes.{LacksField, len_at, WriteEndsFor, IsWriteFor, write_keeps, write_ends}
 use Rattle.barriers.specs.Writes as rest_writes
-use Rattle.tagged_calls.specs.declared.location.Keep.{Keep}
-use Rattle.tagged_calls.specs.declared.location.Location.TheVariants as location
 use Rattle.tagged_calls.specs.Locations.{location_in}
 use Rattle.tagged_calls.specs.Placeds.{placed_at}
 use Rattle.tagged_calls.specs.TaggedCauses.{header_load, header_exchange, Leads, IsApproach, EndsPlaced, IsPlacedFor, PlacedIs, placed_keeps, placed_ends, led_so, lacks, lacks_no_more, turned_so, led_inside}
 use Rattle.chicken_tags.specs.declared.write.ChickenWrite.{ChickenWrite}
 use Rattle.chicken_tags.specs.declared.write.ChickenWrite.TheVariants as write
-use Rattle.chicken_tags.specs.declared.exchange.ChickenExchange.TheVariants as exchange
 use Rattle.chicken_tags.specs.ChickenWrites as writes
 
 -- ---- a write

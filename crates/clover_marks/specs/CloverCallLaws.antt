@@ -15,6 +15,7 @@ use Rattle.tagged_calls.specs.TaggedTableLaws.{front_past}
 use Rattle.clover_marks.specs.CloverTable.{clover_begins, is_own, CloverRow, CloverOwn, CloverShape, clover}
 use Rattle.clover_marks.specs.CloverStays.{own_stays, own_bare}
 use Rattle.clover_marks.specs.CloverGoes.{clover_goes}
+use Rattle.clover_marks.specs.CloverCloses.{clover_closes}
 use Rattle.clover_marks.specs.CloverFinds.{clover_head, clover_inside, clover_found, clover_refused}
 use Rattle.clover_marks.specs.CloverAnswers.{look_later, clover_answered, clover_wants}
 use Rattle.clover_marks.specs.CloverSteps.{step_makes, step_may, step_own}
@@ -68,6 +69,7 @@ clover_calls = record {
   begin_bare = λ acked cycle own s t. begin_so (λ k. has_field k ≡ false) acked cycle own s t refl refl;
   step = step;
   goes = λ c side x k s found at own. clover_goes c side x k s found at own.0;
+  closes = clover_closes;
   bare = own_bare;
   stays = λ c side h b f x w e k makes may dated past target fits shape own. own_stays c side x e k target makes may fits own;
 }

@@ -20,3 +20,4 @@ pub mod Clovers
 pub mod MarkLaws
 pub mod MoveCauses
 pub mod MoverLaws
+pub mod CloverCloses

@@ -22,3 +22,4 @@ pub mod WideLaws
 pub mod WideSteps
 pub mod WriteCauses
 pub mod WriteLaws
+pub mod StoplessCloses

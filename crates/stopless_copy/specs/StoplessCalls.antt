@@ -22,6 +22,7 @@ use Rattle.tagged_calls.specs.TaggedCalls.{tagged_fed}
 use Rattle.tagged_calls.specs.TaggedTable.{MayStore, InTime}
 use Rattle.tagged_calls.specs.TaggedTableLaws.{front_past, front_later}
 use Rattle.tagged_calls.specs.TaggedCallLaws.{IsTaggedCall, IsHead, tagged_goes, tagged_head, tagged_inside, tagged_found, tagged_refused, tagged_answered, tagged_wants}
+use Rattle.stopless_copy.specs.StoplessCloses.{stopless_closes}
 use Rattle.stopless_copy.specs.StoplessTable.{stopless_fed, StoplessOwn, StoplessState, StoplessShape, stopless}
 use Rattle.stopless_copy.specs.WideCallLaws.{goes_wide, IsWideCall, as_tagged, wide_goes, wide_headless, wide_whole}
 use Rattle.stopless_copy.specs.StoplessCallLaws.{called, stays, step_makes, step_may, copy_zone}
@@ -172,6 +173,7 @@ stopless_calls = record {
   begin_bare = λ acked cycle own s t. refl;
   step = λ c side h s x w k seals a. step c side h s x w k a seals;
   goes = goes;
+  closes = stopless_closes;
   bare = bare_stays;
   stays = λ c side h b f x w e k makes may dated past target fits shape own. stays c side h x e k makes may dated past fits own;
 }

@@ -1,3 +1,4 @@
+pub mod CloseLaws
 pub mod CopyLaws
 pub mod KeepLaws
 pub mod LocationLaws
