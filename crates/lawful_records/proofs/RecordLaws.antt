@@ -21,9 +21,10 @@ use Rattle.lawful_records.specs.LawfulRecords.{IsParty, is_collector, LawfulReco
 use Rattle.lawful_records.specs.Opening.{opening_words, opening_parties}
 use Rattle.lawful_records.specs.PassTurns.{IsAnnounced}
 use Rattle.lawful_records.specs.Records.{known_of}
-use Rattle.space_reclaim.specs.declared.move_job.MoveJob.{MoveJob}
-use Rattle.lawful_records.specs.Collectors.{drawn_of, seals_of}
-use Rattle.lawful_records.specs.Turns.{pass_asks, pass_fed, collector_asks, party_asks, turned}
+use Rattle.space_reclaim.specs.Plans.{Planned}
+use Rattle.lawful_records.specs.Collectors.{drawn_of}
+use Rattle.lawful_records.specs.JobStands.{IsPlan}
+use Rattle.lawful_records.specs.Turns.{pass_asks, pass_fed, party_asks, turned}
 use Rattle.lawful_records.specs.declared.collector.CollectorMachine.{CollectorMachine}
 use Rattle.lawful_records.specs.declared.records.CollectorKnown.{CollectorKnown}
 use Rattle.lawful_records.specs.declared.records.PassKnown.{PassKnown}
@@ -31,7 +32,7 @@ use Rattle.lawful_records.specs.declared.records.Party.{Party}
 use Rattle.lawful_records.specs.declared.records.Party.TheVariants as party
 use Rattle.lawful_records.proofs.beginnings.Starts.{begins_on}
 use Rattle.lawful_records.proofs.calls.CallSteps.{CallKept}
-use Rattle.lawful_records.proofs.collecting.CollectorTurns.{collector_inside, collector_plays, collector_alone, collector_heads, collector_keeps}
+use Rattle.lawful_records.proofs.collecting.CollectorTurns.{collector_inside, collector_plays, collector_heads, collector_keeps}
 use Rattle.lawful_records.proofs.collecting.Announcing.{announced_is}
 use Rattle.lawful_records.proofs.opening.Opens.{opens}
 use Rattle.lawful_records.proofs.parties.PassKeeps.{stands_of}
@@ -56,14 +57,14 @@ module _ {R W E M : Type 0} (kit : Kit R W E M) where
 
 module _ {R W E M : Type 0} (kit : Kit R W E M) where
   -- one of the parties is the collector
-  plays : (l : Sizes) (k : CollectorMachine M) (s : Space) (n : Notices) (rs : List (Party R W E M)) → 1 ≤ sum_by (is_collector kit) rs → All (IsParty kit l k s n) rs → (cycles : ℕ) × (cycles ≤ 64) × IsCollector l kit.kind cycles k
+  plays : (l : Sizes) (k : CollectorMachine M) (s : Space) (n : Notices) (rs : List (Party R W E M)) → 1 ≤ sum_by (is_collector kit) rs → All (IsParty kit l k s n) rs → (cycles : ℕ) × (plan : Planned) × (cycles ≤ 64) × IsCollector l kit.kind cycles plan k
   plays l k s n [] some each = absurd (omega arith)
   plays l k s n (party.Pass p ∷ rs) some each = plays l k s n rs (omega (arith, some, sum_by-cons (is_collector kit) (party.Pass p) rs)) (All-tail (IsParty kit l k s n) (party.Pass p) rs each)
-  plays l k s n (party.Collector q ∷ rs) some each = let is = All-head (IsParty kit l k s n) (party.Collector q) rs each in (is.cycles, is.few, is.collects)
+  plays l k s n (party.Collector q ∷ rs) some each = let is = All-head (IsParty kit l k s n) (party.Collector q) rs each in (is.cycles, q.plan, is.few, is.collects)
 
   -- what it announces is an announcement to every pass
   pub announced : kit.minds ≡ is_clover kit.kind → (l : Sizes) (words : List ℕ) (rs : List (Party R W E M)) (w : LawfulRecords kit l words rs) → IsAnnounced kit.minds l (announced_by w.collector) (cycle_of w.collector) (drawn_of w.collector)
-  announced minds l words rs w = let is = plays l w.collector w.space w.notices rs (omega (arith, w.parties.collector)) w.each in announced_is kit.minds l kit.kind is.0 is.1 minds w.collector is.2
+  announced minds l words rs w = let is = plays l w.collector w.space w.notices rs (omega (arith, w.parties.collector)) w.each in announced_is kit.minds l kit.kind is.0 is.2 minds is.1 w.collector is.3
 
 module _ {R W E M : Type 0} (kit : Kit R W E M) (by : Stepping R W E M) (laws : Laws kit by) where
   pub lawful_inside : (l : Sizes) (words : List ℕ) (others : List (Party R W E M)) (r : Party R W E M) → LawfulRecords kit l words (r ∷ others) → IsInside (words_of l) (party_asks kit by r)
@@ -99,10 +100,10 @@ module _ {R W E M : Type 0} (kit : Kit R W E M) (by : Stepping R W E M) (laws : 
       → (k next : Known) → known_of kit p.pass.machine ≡ Some k → known_of kit (pass_fed kit by p.pass.machine (slice_index words (place_of (pass_asks kit by p.pass.machine)))) ≡ Some next → CallKept k next
   lawful_calls l words others p w on = own_kept kit by laws laws.cycle l words p others w (announced kit laws.minds l words (party.Pass p ∷ others) w) on
 
-  -- the collector plays its cycles over the layout
-  pub lawful_plays : (l : Sizes) (words : List ℕ) (others : List (Party R W E M)) (q : CollectorKnown M) → LawfulRecords kit l words (party.Collector q ∷ others) → (cycles : ℕ) × IsCollector l kit.kind cycles q.machine
+  -- the collector plays its cycles over the layout, and what it has planned is a plan
+  pub lawful_plays : (l : Sizes) (words : List ℕ) (others : List (Party R W E M)) (q : CollectorKnown M) → LawfulRecords kit l words (party.Collector q ∷ others) → (cycles : ℕ) × IsCollector l kit.kind cycles q.plan q.machine × IsPlan kit.kind l q.plan
   lawful_plays l words others q w = collector_plays kit by laws l words others q w
 
-  -- where its step seals an object, nothing was sealed before: until cycles are planned that is the common object, once
-  pub lawful_seals : (l : Sizes) (words : List ℕ) (others : List (Party R W E M)) (q : CollectorKnown M) → LawfulRecords kit l words (party.Collector q ∷ others) → (job : MoveJob) → seals_of q.machine (collector_asks kit by q.machine) (slice_index words (place_of (collector_asks kit by q.machine))) ≡ Some job → q.sealed ≡ []
-  lawful_seals l words others q w job e = collector_alone kit by laws l words others q w job e
+  -- no more is sealed than it has planned to move
+  pub lawful_sealed : (l : Sizes) (words : List ℕ) (others : List (Party R W E M)) (q : CollectorKnown M) → LawfulRecords kit l words (party.Collector q ∷ others) → length q.sealed ≤ (let plan = q.plan in length plan.jobs)
+  lawful_sealed l words others q w = let own = All-head (IsParty kit l w.collector w.space w.notices) (party.Collector q) others w.each in own.fit

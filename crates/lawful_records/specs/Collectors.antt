@@ -1,5 +1,6 @@
 -- The collector's machine, and what it has announced.
-use Rattle.std.specs.Prelude.{◌≡◌, ◌≤◌, ℕ, ◌+◌, ◌-◌, ◌==◌, ◌&&◌, Bool, true, false, not, nat_lt, if◌then◌else◌, Option, Some, None, refl}
+use Rattle.std.specs.Prelude.{◌≡◌, ◌≤◌, ℕ, ◌+◌, ◌-◌, ◌==◌, ◌&&◌, ◌^◌, min, Bool, true, false, not, nat_lt, if◌then◌else◌, List, [], drop, Option, Some, None, refl}
+use Rattle.std.specs.List.{slice_get, prefix_len}
 use Rattle.call_steps.specs.declared.step.Step.{Step}
 use Rattle.call_steps.specs.declared.step.Step.TheVariants.{Store, Exchange, Ended}
 use Rattle.heap_words.specs.Layouts.{Sizes, phase_at, mark_at as mark_at_word, ack_at, region_at}
@@ -17,6 +18,7 @@ use Rattle.handshakes.specs.Awaits as awaits
 use Rattle.space_reclaim.specs.declared.move_job.MoveJob.{MoveJob}
 use Rattle.space_reclaim.specs.declared.region_word.RegionWord.TheVariants as regions
 use Rattle.space_reclaim.specs.RegionWords.{word_of_region}
+use Rattle.space_reclaim.specs.Plans.{Planned}
 use Rattle.mark_search.specs.declared.seek.SeekEnd.{SeekEnd}
 use Rattle.mark_search.specs.declared.seek.SeekEnd.TheVariants.{Clear, MarkFound}
 use Rattle.mark_search.specs.declared.seek.SeekMarkMachine.{SeekMarkMachine}
@@ -25,7 +27,7 @@ use Rattle.mark_search.specs.declared.candidates.Candidates.{Candidates}
 use Rattle.mark_search.specs.Seeks as seeks
 use Rattle.barriers.specs.declared.ends.MoveEnd.{MoveEnd}
 use Rattle.barriers.specs.Kits.{Kit}
-use Rattle.lawful_records.specs.declared.job.TheConstants.{EMPTIED, FILLED}
+use Rattle.barriers.specs.Rows.{region_of}
 use Rattle.lawful_records.specs.declared.stage.Announcement.{Announcement}
 use Rattle.lawful_records.specs.declared.stage.Announcement.TheVariants.{Mark, Confirm, Search, Copy, Fix, Free}
 use Rattle.lawful_records.specs.declared.stage.TheConstants.{SEARCHES, LAST_ROUND}
@@ -33,7 +35,7 @@ use Rattle.lawful_records.specs.declared.stage.Stage.{Stage}
 use Rattle.lawful_records.specs.declared.awaited.Awaited.{Awaited}
 use Rattle.lawful_records.specs.declared.collector.CollectorMachine.{CollectorMachine}
 use Rattle.lawful_records.specs.declared.collector.CollectorMachine.TheVariants as collector
-use Rattle.lawful_records.specs.Jobs.{job_in, tagged_word, does_seal}
+use Rattle.lawful_records.specs.Jobs.{tagged_word, does_seal}
 
 -- ---- the announcements of a cycle
 
@@ -118,9 +120,25 @@ before_by Free s = record s { announcement = Fix }
 abbrev pub stage_before : Stage → Stage
 stage_before s = before_by s.announcement s
 
--- the job of its cycle, if it has one
-abbrev pub planned : Stage → Option MoveJob
-planned s = job_in s.kind s.layout s.cycle
+-- whether its cycle has the plan: until cycles are planned anew, the first one
+abbrev pub is_planned : Stage → Bool
+is_planned s = s.cycle == 1
+
+-- the jobs of its cycle
+abbrev pub jobs_of : Planned → Stage → List MoveJob
+jobs_of plan s = if is_planned s then plan.jobs else []
+
+-- the address of the word that says what a region is used for
+abbrev pub used_at : Sizes → ℕ → ℕ
+used_at l region = min (region_at l 0 + region) (2 ^ 32 - 1)
+
+-- the region to which a job copies
+abbrev pub target_of : Sizes → MoveJob → ℕ
+target_of l job = region_of l job.to
+
+-- how many jobs, one after another from the one with this number on, copy to a region
+abbrev pub run_of : Sizes → List MoveJob → ℕ → ℕ → ℕ
+run_of l jobs from region = prefix_len (λ j. target_of l j == region) (drop from jobs)
 
 -- ---- the machine
 
@@ -137,13 +155,10 @@ module _ {M : Type 0} where
   abbrev pub announce : Stage → Announcement → CollectorMachine M
   announce s next = collector.Announce (record s { announcement = next })
 
-  -- before Copy is announced a mark is sought, or the object of the job is tagged
-  abbrev pub to_tag : Option MoveJob → Stage → CollectorMachine M
-  to_tag None s = announce s Copy
-  to_tag (Some job) s = collector.Source (record s { announcement = Copy }) job
-
-  abbrev pub to_copy : Option MoveJob → Stage → CollectorMachine M
-  to_copy job s = if is_clover s.kind then collector.Draw (searched s 1) else to_tag job s
+  -- the tag of the object of a job, with this number in the plan; after the last one this is announced
+  abbrev pub tag_at : Option MoveJob → Stage → ℕ → CollectorMachine M
+  tag_at None s at = collector.Announce s
+  tag_at (Some job) s at = collector.Tag s job (at + 1)
 
   -- all passes have the candidate as their mark
   abbrev pub seek_at : Stage → CollectorMachine M
@@ -164,15 +179,15 @@ module _ {M : Type 0} where
   asks_of asks (collector.Await s pass m) = awaits.asks_of m
   asks_of asks (collector.Draw s) = Store mark_at_word (mark_word s)
   asks_of asks (collector.Seek s m) = seeks.asks_of m
-  asks_of asks (collector.Source s job) = Store (region_at s.layout EMPTIED) (word_of_region regions.Source)
-  asks_of asks (collector.Target s job) = Store (region_at s.layout FILLED) (word_of_region regions.Target)
-  asks_of asks (collector.Tag s job) = Exchange job.from job.header (tagged_word job.header)
-  asks_of asks (collector.Move s job m) = asks m
+  asks_of asks (collector.Source s region next) = Store (used_at s.layout region) (word_of_region regions.Source)
+  asks_of asks (collector.Target s region next) = Store (used_at s.layout region) (word_of_region regions.Target)
+  asks_of asks (collector.Tag s job next) = Exchange job.from job.header (tagged_word job.header)
+  asks_of asks (collector.Move s job next m) = asks m
   asks_of asks (collector.Done s) = Ended
 
   -- the object that this step seals, where it finds this word
   abbrev pub seals_of : CollectorMachine M → Step → ℕ → Option MoveJob
-  seals_of (collector.Move s job m) step found = if does_seal job.from step found then Some job else None
+  seals_of (collector.Move s job next m) step found = if does_seal job.from step found then Some job else None
   seals_of k step found = None
 
   -- what its search has ended with, if it ends by the step that finds this word
@@ -181,61 +196,82 @@ module _ {M : Type 0} where
   seek_ended k found = None
 
 module _ {R W E M : Type 0} (kit : Kit R W E M) where
-  -- the move of a job's object, before this is announced
-  abbrev pub move_at : Stage → MoveJob → CollectorMachine M
-  move_at s job = collector.Move s job (kit.starts_move s.layout job (mark_word s))
+  -- the move of a job's object, with this number in the plan; after the last one this is announced
+  abbrev pub move_at : Option MoveJob → Stage → ℕ → CollectorMachine M
+  move_at None s at = collector.Announce s
+  move_at (Some job) s at = collector.Move s job (at + 1) (kit.starts_move s.layout job (mark_word s))
 
-  -- before Fix is announced the object of the job is moved
-  abbrev pub to_fix : Option MoveJob → Stage → CollectorMachine M
-  to_fix None s = announce s Fix
-  to_fix (Some job) s = if is_clover s.kind then collector.Source (record s { announcement = Fix }) job else move_at (record s { announcement = Fix }) job
+  -- with the words of the regions stored the objects are tagged, or moved
+  abbrev pub targeted : Planned → Stage → CollectorMachine M
+  targeted plan s = if is_clover s.kind then move_at (slice_get plan.jobs 0) s 0 else tag_at (slice_get plan.jobs 0) s 0
 
-  -- with the words of the job's regions stored it is tagged, or moved
-  abbrev pub targeted : Stage → MoveJob → CollectorMachine M
-  targeted s job = if is_clover s.kind then move_at s job else collector.Tag s job
+  -- the word of the region to which this job copies, and those after it that copy there too
+  abbrev pub target_at : Planned → Option MoveJob → Stage → ℕ → CollectorMachine M
+  target_at plan None s at = targeted plan s
+  target_at plan (Some job) s at = let region = target_of s.layout job in collector.Target s region (at + run_of s.layout plan.jobs at region)
+
+  -- the word of a chosen region
+  abbrev pub source_at : Planned → Option ℕ → Stage → ℕ → CollectorMachine M
+  source_at plan None s at = target_at plan (slice_get plan.jobs 0) s 0
+  source_at plan (Some region) s at = collector.Source s region (at + 1)
+
+  -- the work on the plan before this is announced, if the cycle has it; and the moves
+  abbrev pub work_at : Planned → Stage → CollectorMachine M
+  work_at plan s = if is_planned s then source_at plan (slice_get plan.chosen 0) s 0 else collector.Announce s
+
+  abbrev pub moves_at : Planned → Stage → CollectorMachine M
+  moves_at plan s = if is_planned s then move_at (slice_get plan.jobs 0) s 0 else collector.Announce s
+
+  -- before Copy is announced a mark is sought, or objects are tagged
+  abbrev pub to_copy : Planned → Stage → CollectorMachine M
+  to_copy plan s = if is_clover s.kind then collector.Draw (searched s 1) else work_at plan (record s { announcement = Copy })
+
+  -- before Fix is announced they are moved
+  abbrev pub to_fix : Planned → Stage → CollectorMachine M
+  to_fix plan s = if is_clover s.kind then work_at plan (record s { announcement = Fix }) else moves_at plan (record s { announcement = Fix })
 
   -- all passes have answered: the next announcement comes, and after Free the next cycle, if there is one
-  abbrev pub behind_by : Announcement → Stage → CollectorMachine M
-  behind_by Mark s = announce s Confirm
-  behind_by Confirm s = to_copy (planned s) s
-  behind_by Search s = seek_at s
-  behind_by Copy s = to_fix (planned s) s
-  behind_by Fix s = announce s Free
-  behind_by Free s =
+  abbrev pub behind_by : Planned → Announcement → Stage → CollectorMachine M
+  behind_by plan Mark s = announce s Confirm
+  behind_by plan Confirm s = to_copy plan s
+  behind_by plan Search s = seek_at s
+  behind_by plan Copy s = to_fix plan s
+  behind_by plan Fix s = announce s Free
+  behind_by plan Free s =
       if nat_lt s.cycle s.cycles
       then collector.Announce (record s { cycle = s.cycle + 1; announcement = Mark })
       else collector.Done s
 
   -- this pass and those before it have answered
-  abbrev pub awaited : Stage → ℕ → CollectorMachine M
-  awaited s pass = if nat_lt pass s.layout.passes then look s (pass + 1) else behind_by s.announcement s
+  abbrev pub awaited : Planned → Stage → ℕ → CollectorMachine M
+  awaited plan s pass = if nat_lt pass s.layout.passes then look s (pass + 1) else behind_by plan s.announcement s
 
   -- a look has ended: the pass has answered or retired, or it is looked at again
-  abbrev pub looked : Stage → ℕ → AwaitMachine → Option AwaitEnd → CollectorMachine M
-  looked s pass m (Some Answered) = awaited s pass
-  looked s pass m (Some Retired) = awaited s pass
-  looked s pass m (Some (NotYet at found)) = collector.Await s pass m
-  looked s pass m None = collector.Await s pass m
+  abbrev pub looked : Planned → Stage → ℕ → AwaitMachine → Option AwaitEnd → CollectorMachine M
+  looked plan s pass m (Some Answered) = awaited plan s pass
+  looked plan s pass m (Some Retired) = awaited plan s pass
+  looked plan s pass m (Some (NotYet at found)) = collector.Await s pass m
+  looked plan s pass m None = collector.Await s pass m
 
   -- after a step of the move, which has ended so
-  abbrev pub moved_by : Stage → MoveJob → M → Option MoveEnd → CollectorMachine M
-  moved_by s job m None = collector.Move s job m
-  moved_by s job m (Some end) = collector.Announce s
+  abbrev pub moved_by : Planned → Stage → MoveJob → ℕ → M → Option MoveEnd → CollectorMachine M
+  moved_by plan s job next m None = collector.Move s job next m
+  moved_by plan s job next m (Some end) = move_at (slice_get plan.jobs next) s next
 
-  abbrev pub moved_on : Stage → MoveJob → M → CollectorMachine M
-  moved_on s job m = moved_by s job m (kit.move_ended m)
+  abbrev pub moved_on : Planned → Stage → MoveJob → ℕ → M → CollectorMachine M
+  moved_on plan s job next m = moved_by plan s job next m (kit.move_ended m)
 
   -- what it is after it was fed a word, where its mover goes on so
-  abbrev pub fed_of : (M → ℕ → M) → CollectorMachine M → ℕ → CollectorMachine M
-  fed_of fed (collector.Announce s) found = look s 1
-  fed_of fed (collector.Await s pass m) found = looked s pass m (awaits.end_of (awaits.fed_of m found))
-  fed_of fed (collector.Draw s) found = collector.Announce s
-  fed_of fed (collector.Seek s m) found = sought_on s (seeks.fed_of m found)
-  fed_of fed (collector.Source s job) found = collector.Target s job
-  fed_of fed (collector.Target s job) found = targeted s job
-  fed_of fed (collector.Tag s job) found = collector.Announce s
-  fed_of fed (collector.Move s job m) found = moved_on s job (fed m found)
-  fed_of fed (collector.Done s) found = collector.Done s
+  abbrev pub fed_of : (M → ℕ → M) → Planned → CollectorMachine M → ℕ → CollectorMachine M
+  fed_of fed plan (collector.Announce s) found = look s 1
+  fed_of fed plan (collector.Await s pass m) found = looked plan s pass m (awaits.end_of (awaits.fed_of m found))
+  fed_of fed plan (collector.Draw s) found = collector.Announce s
+  fed_of fed plan (collector.Seek s m) found = sought_on s (seeks.fed_of m found)
+  fed_of fed plan (collector.Source s region next) found = source_at plan (slice_get plan.chosen next) s next
+  fed_of fed plan (collector.Target s region next) found = target_at plan (slice_get plan.jobs next) s next
+  fed_of fed plan (collector.Tag s job next) found = tag_at (slice_get plan.jobs next) s next
+  fed_of fed plan (collector.Move s job next m) found = moved_on plan s job next (fed m found)
+  fed_of fed plan (collector.Done s) found = collector.Done s
 
   -- what the move has ended with, if it ends by the step that finds this word
   abbrev pub ended_with : MoveJob → Option MoveEnd → Option (MoveJob × MoveEnd)
@@ -243,24 +279,24 @@ module _ {R W E M : Type 0} (kit : Kit R W E M) where
   ended_with job (Some end) = Some (job, end)
 
   abbrev pub move_ended : (M → ℕ → M) → CollectorMachine M → ℕ → Option (MoveJob × MoveEnd)
-  move_ended fed (collector.Move s job m) found = ended_with job (kit.move_ended (fed m found))
+  move_ended fed (collector.Move s job next m) found = ended_with job (kit.move_ended (fed m found))
   move_ended fed k found = None
 
-  abbrev pub collector_of : Sizes → ℕ → ℕ → CollectorMachine M
-  collector_of l cycles salt = behind_by Free (stage_at_start kit.kind l cycles salt)
+  abbrev pub collector_of : Planned → Sizes → ℕ → ℕ → CollectorMachine M
+  collector_of plan l cycles salt = behind_by plan Free (stage_at_start kit.kind l cycles salt)
 
   -- after a store it goes on alike for every word, as its mover does
-  pub blind_of : (asks : M → Step) (fed : M → ℕ → M) → ((m : M) (at put n : ℕ) → asks m ≡ Store at put → fed m n ≡ fed m 0) → (k : CollectorMachine M) (at put n : ℕ) → asks_of asks k ≡ Store at put → fed_of fed k n ≡ fed_of fed k 0
-  blind_of asks fed blind (collector.Announce s) at put n is = refl
-  blind_of asks fed blind (collector.Await s pass (await.Acknowledgement place p word)) at put n is = absurd cc
-  blind_of asks fed blind (collector.Await s pass (await.Ended e)) at put n is = refl
-  blind_of asks fed blind (collector.Draw s) at put n is = refl
-  blind_of asks fed blind (collector.Seek s m) at put n is = rw (seeks.blind_of m at put n is) refl
-  blind_of asks fed blind (collector.Source s job) at put n is = refl
-  blind_of asks fed blind (collector.Target s job) at put n is = refl
-  blind_of asks fed blind (collector.Tag s job) at put n is = refl
-  blind_of asks fed blind (collector.Move s job m) at put n is = rw (blind m at put n is) refl
-  blind_of asks fed blind (collector.Done s) at put n is = refl
+  pub blind_of : (asks : M → Step) (fed : M → ℕ → M) → ((m : M) (at put n : ℕ) → asks m ≡ Store at put → fed m n ≡ fed m 0) → (plan : Planned) (k : CollectorMachine M) (at put n : ℕ) → asks_of asks k ≡ Store at put → fed_of fed plan k n ≡ fed_of fed plan k 0
+  blind_of asks fed blind plan (collector.Announce s) at put n is = refl
+  blind_of asks fed blind plan (collector.Await s pass (await.Acknowledgement place p word)) at put n is = absurd cc
+  blind_of asks fed blind plan (collector.Await s pass (await.Ended e)) at put n is = refl
+  blind_of asks fed blind plan (collector.Draw s) at put n is = refl
+  blind_of asks fed blind plan (collector.Seek s m) at put n is = rw (seeks.blind_of m at put n is) refl
+  blind_of asks fed blind plan (collector.Source s region next) at put n is = refl
+  blind_of asks fed blind plan (collector.Target s region next) at put n is = refl
+  blind_of asks fed blind plan (collector.Tag s job next) at put n is = refl
+  blind_of asks fed blind plan (collector.Move s job next m) at put n is = rw (blind m at put n is) refl
+  blind_of asks fed blind plan (collector.Done s) at put n is = refl
 
 -- what is made of the same is the same
 pub alike : {A B : Type 0} (make : A → B) (x y : A) → x ≡ y → make x ≡ make y
@@ -275,10 +311,10 @@ module _ {M : Type 0} where
   stage_of (collector.Await s pass m) = s
   stage_of (collector.Draw s) = stage_before s
   stage_of (collector.Seek s m) = s
-  stage_of (collector.Source s job) = stage_before s
-  stage_of (collector.Target s job) = stage_before s
-  stage_of (collector.Tag s job) = stage_before s
-  stage_of (collector.Move s job m) = stage_before s
+  stage_of (collector.Source s region next) = stage_before s
+  stage_of (collector.Target s region next) = stage_before s
+  stage_of (collector.Tag s job next) = stage_before s
+  stage_of (collector.Move s job next m) = stage_before s
   stage_of (collector.Done s) = s
 
   -- the phase word now announced
@@ -295,10 +331,10 @@ module _ {M : Type 0} where
   drawn_of (collector.Await s pass m) = mark_word s
   drawn_of (collector.Draw s) = mark_word (stage_before s)
   drawn_of (collector.Seek s m) = mark_word s
-  drawn_of (collector.Source s job) = mark_word s
-  drawn_of (collector.Target s job) = mark_word s
-  drawn_of (collector.Tag s job) = mark_word s
-  drawn_of (collector.Move s job m) = mark_word s
+  drawn_of (collector.Source s region next) = mark_word s
+  drawn_of (collector.Target s region next) = mark_word s
+  drawn_of (collector.Tag s job next) = mark_word s
+  drawn_of (collector.Move s job next m) = mark_word s
   drawn_of (collector.Done s) = mark_word s
 
   -- how many passes the await has passed, in rising number: all of them outside an await
@@ -307,10 +343,10 @@ module _ {M : Type 0} where
   passed_of (collector.Await s pass m) = pass - 1
   passed_of (collector.Draw s) = s.layout.passes
   passed_of (collector.Seek s m) = s.layout.passes
-  passed_of (collector.Source s job) = s.layout.passes
-  passed_of (collector.Target s job) = s.layout.passes
-  passed_of (collector.Tag s job) = s.layout.passes
-  passed_of (collector.Move s job m) = s.layout.passes
+  passed_of (collector.Source s region next) = s.layout.passes
+  passed_of (collector.Target s region next) = s.layout.passes
+  passed_of (collector.Tag s job next) = s.layout.passes
+  passed_of (collector.Move s job next m) = s.layout.passes
   passed_of (collector.Done s) = s.layout.passes
 
 -- ---- how many changes there were when its awaits ended

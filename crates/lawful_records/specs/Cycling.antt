@@ -61,10 +61,10 @@ module _ {M : Type 0} where
   told_by (collector.Await s pass m) = told_awaiting s.announcement (is_refused s)
   told_by (collector.Draw s) = Nobody
   told_by (collector.Seek s m) = Nobody
-  told_by (collector.Source s job) = told_until s
-  told_by (collector.Target s job) = told_until s
-  told_by (collector.Tag s job) = told_until s
-  told_by (collector.Move s job m) = told_until s
+  told_by (collector.Source s region next) = told_until s
+  told_by (collector.Target s region next) = told_until s
+  told_by (collector.Tag s job next) = told_until s
+  told_by (collector.Move s job next m) = told_until s
   told_by (collector.Done s) = Nobody
 
   abbrev pub clear_by : CollectorMachine M → Bool
@@ -72,10 +72,10 @@ module _ {M : Type 0} where
   clear_by (collector.Await s pass m) = clear_awaiting s.announcement s.marks.clear
   clear_by (collector.Draw s) = false
   clear_by (collector.Seek s m) = false
-  clear_by (collector.Source s job) = clear_until s
-  clear_by (collector.Target s job) = clear_until s
-  clear_by (collector.Tag s job) = clear_until s
-  clear_by (collector.Move s job m) = clear_until s
+  clear_by (collector.Source s region next) = clear_until s
+  clear_by (collector.Target s region next) = clear_until s
+  clear_by (collector.Tag s job next) = clear_until s
+  clear_by (collector.Move s job next m) = clear_until s
   clear_by (collector.Done s) = false
 
   -- The cycle as copiers see it. Nothing that has moved is given up yet, so its words may be read at all times.

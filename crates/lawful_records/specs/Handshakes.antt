@@ -1,5 +1,6 @@
 -- A collector that plays its cycles over a layout.
-use Rattle.std.specs.Prelude.{◌≡◌, ℕ, ◌+◌, ◌-◌, ◌*◌, ◌≤◌, Bool, true, false, if◌then◌else◌, Some}
+use Rattle.std.specs.Prelude.{◌≡◌, ℕ, ◌+◌, ◌-◌, ◌*◌, ◌≤◌, Bool, true, false, if◌then◌else◌, List, length, Some}
+use Rattle.std.specs.List.{slice_get}
 use Rattle.heap_words.specs.Layouts.{Sizes, IsPass, ack_at}
 use Rattle.object_headers.specs.declared.change.Kind.{Kind}
 use Rattle.object_headers.specs.Changes.{is_clover}
@@ -7,6 +8,7 @@ use Rattle.handshakes.specs.declared.answer.AwaitMachine.{AwaitMachine}
 use Rattle.handshakes.specs.declared.answer.AwaitMachine.TheVariants as await
 use Rattle.mark_search.specs.declared.seek.SeekMarkMachine.{SeekMarkMachine}
 use Rattle.space_reclaim.specs.declared.move_job.MoveJob.{MoveJob}
+use Rattle.space_reclaim.specs.Plans.{Planned}
 use Rattle.lawful_records.specs.declared.stage.Announcement.{Announcement}
 use Rattle.lawful_records.specs.declared.stage.Announcement.TheVariants.{Mark, Confirm, Search, Copy, Fix, Free}
 use Rattle.lawful_records.specs.declared.stage.Marks.{Marks}
@@ -14,7 +16,7 @@ use Rattle.lawful_records.specs.declared.stage.Stage.{Stage}
 use Rattle.lawful_records.specs.declared.stage.TheConstants.{SEARCHES}
 use Rattle.lawful_records.specs.declared.collector.CollectorMachine.{CollectorMachine}
 use Rattle.lawful_records.specs.declared.collector.CollectorMachine.TheVariants as collector
-use Rattle.lawful_records.specs.Collectors.{word_of, mark_word, planned}
+use Rattle.lawful_records.specs.Collectors.{word_of, mark_word, is_planned, target_of}
 use Rattle.lawful_records.specs.Searches.{Seeks}
 
 -- ---- what was drawn for the marks
@@ -83,25 +85,33 @@ pub record IsSeek (l : Sizes) (kind : Kind) (cycles : ℕ) (s : Stage) (m : Seek
   pub at : IsSearch l kind cycles s
   pub seeks : Seeks l (mark_word s) m
 
--- before this announcement the regions of a job get their words
+-- before this announcement the regions of the plan get their words
 abbrev pub work_before : Kind → Announcement
 work_before kind = if is_clover kind then Fix else Copy
 
--- the work on the cycle's job, before this is announced; where a mark is sought, after a search that ended clear
-pub record IsWork (l : Sizes) (kind : Kind) (cycles : ℕ) (next : Announcement) (s : Stage) (job : MoveJob) : Type 0 where
+-- the work on the cycle's plan, before this is announced; where a mark is sought, after a search that ended clear
+pub record IsWork (l : Sizes) (kind : Kind) (cycles : ℕ) (next : Announcement) (s : Stage) : Type 0 where
   pub stage : IsStage l kind cycles s
   pub next_is : s.announcement ≡ next
-  pub job_is : planned s ≡ Some job
+  pub planned : is_planned s ≡ true
   pub clear : is_clover kind ≡ true → s.marks.clear ≡ true
 
--- a collector that plays so many cycles over this layout
-abbrev pub IsCollector : {M : Type 0} → Sizes → Kind → ℕ → CollectorMachine M → Type 0
-IsCollector l kind cycles (collector.Announce s) = IsStage l kind cycles s
-IsCollector l kind cycles (collector.Await s pass m) = IsAwait l kind cycles s pass m
-IsCollector l kind cycles (collector.Draw s) = IsSearch l kind cycles s
-IsCollector l kind cycles (collector.Seek s m) = IsSeek l kind cycles s m
-IsCollector l kind cycles (collector.Source s job) = IsWork l kind cycles (work_before kind) s job
-IsCollector l kind cycles (collector.Target s job) = IsWork l kind cycles (work_before kind) s job
-IsCollector l kind cycles (collector.Tag s job) = IsWork l kind cycles Copy s job × (is_clover kind ≡ false)
-IsCollector l kind cycles (collector.Move s job m) = IsWork l kind cycles Fix s job
-IsCollector l kind cycles (collector.Done s) = IsLast l kind cycles s
+-- one of a list
+abbrev pub IsIn : {X : Type 0} → List X → X → Type 0
+IsIn xs x = (i : ℕ) × (slice_get xs i ≡ Some x)
+
+-- a region to which one of these jobs copies
+abbrev pub IsTargetOf : Sizes → List MoveJob → ℕ → Type 0
+IsTargetOf l jobs region = (job : MoveJob) × IsIn jobs job × (region ≡ target_of l job)
+
+-- a collector that plays so many cycles over this layout, where this is planned
+abbrev pub IsCollector : {M : Type 0} → Sizes → Kind → ℕ → Planned → CollectorMachine M → Type 0
+IsCollector l kind cycles plan (collector.Announce s) = IsStage l kind cycles s
+IsCollector l kind cycles plan (collector.Await s pass m) = IsAwait l kind cycles s pass m
+IsCollector l kind cycles plan (collector.Draw s) = IsSearch l kind cycles s
+IsCollector l kind cycles plan (collector.Seek s m) = IsSeek l kind cycles s m
+IsCollector l kind cycles plan (collector.Source s region next) = IsWork l kind cycles (work_before kind) s × IsIn plan.chosen region
+IsCollector l kind cycles plan (collector.Target s region next) = IsWork l kind cycles (work_before kind) s × IsTargetOf s.layout plan.jobs region
+IsCollector l kind cycles plan (collector.Tag s job next) = IsWork l kind cycles Copy s × (is_clover kind ≡ false) × IsIn plan.jobs job
+IsCollector l kind cycles plan (collector.Move s job next m) = IsWork l kind cycles Fix s × IsIn plan.jobs job × (next ≤ length plan.jobs)
+IsCollector l kind cycles plan (collector.Done s) = IsLast l kind cycles s

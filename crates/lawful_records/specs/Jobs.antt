@@ -1,5 +1,5 @@
--- What a cycle moves, until cycles are planned; and which step of a mover seals its object.
-use Rattle.std.specs.Prelude.{ℕ, ◌==◌, ◌&&◌, Bool, true, false, nat_le, if◌then◌else◌, Option, Some, None}
+-- What the first cycle moves, until cycles are planned; and which step of a mover seals its object.
+use Rattle.std.specs.Prelude.{ℕ, ◌==◌, ◌&&◌, Bool, true, false, nat_le, if◌then◌else◌, [], ◌∷◌}
 use Rattle.heap_words.specs.Layouts.{Sizes, first_word, wide_at}
 use Rattle.call_steps.specs.declared.step.Step.{Step}
 use Rattle.call_steps.specs.declared.step.Step.TheVariants.{Exchange}
@@ -12,6 +12,7 @@ use Rattle.object_headers.specs.declared.header.State.TheVariants as states
 use Rattle.object_headers.specs.Changes.{does_move}
 use Rattle.object_headers.specs.Headers.{word_of_header, header_at}
 use Rattle.space_reclaim.specs.declared.move_job.MoveJob.{MoveJob}
+use Rattle.space_reclaim.specs.Plans.{Planned}
 use Rattle.lawful_records.specs.declared.job.TheConstants.{EMPTIED, FILLED, WIDE_WORDS}
 
 -- ---- the job
@@ -41,10 +42,17 @@ first_job kind l = record {
   header = word_of_header common;
 }
 
--- The job of a cycle, until there is a plan: in the first cycle that object, where the pool has a second region and the wide area room.
-abbrev pub job_in : Kind → Sizes → ℕ → Option MoveJob
-job_in kind l cycle =
-    if does_move kind && nat_le 2 l.pool && cycle == 1 && has_wide_room kind l then Some (first_job kind l) else None
+-- a copier of this kind moves it, where the pool has a second region and the wide area room
+abbrev pub has_job : Kind → Sizes → Bool
+has_job kind l = does_move kind && nat_le 2 l.pool && has_wide_room kind l
+
+-- The plan of the first cycle, until cycles are planned: to move that object.
+abbrev pub first_plan : Kind → Sizes → Planned
+first_plan kind l = record {
+  layout = l;
+  chosen = (if has_job kind l then EMPTIED ∷ [] else []);
+  jobs = (if has_job kind l then first_job kind l ∷ [] else []);
+}
 
 -- ---- headers
 

@@ -1,8 +1,7 @@
 -- What holds of the words and of the records of all parties between any two steps, over any copier. No command and no answer is in it.
 use Rattle.std.specs.Prelude.{◌≡◌, ◌≢◌, ℕ, ◌+◌, ◌*◌, ◌<◌, ◌≤◌, true, List, [], ◌∷◌, ◌++◌, length, map, reverse, sum_by, ◌==◌, if◌then◌else◌, Option, None, IsSome}
 use Rattle.std.specs.List.{All, Contains, filter}
-use Rattle.heap_words.specs.Layouts.{Sizes, IsLayout, IsPass, words_of, first_word}
-use Rattle.lawful_records.specs.declared.job.TheConstants.{EMPTIED}
+use Rattle.heap_words.specs.Layouts.{Sizes, IsLayout, IsPass, words_of}
 use Rattle.heap_words.specs.FieldWords.{IsFieldWord}
 use Rattle.heap_words.specs.declared.field_word.FieldWord.{FieldWord}
 use Rattle.call_steps.specs.StepLaws.{reading}
@@ -35,7 +34,8 @@ use Rattle.lawful_records.specs.declared.collector.CollectorMachine.{CollectorMa
 use Rattle.lawful_records.specs.Handshakes.{IsCollector}
 use Rattle.lawful_records.specs.Collectors.{drawn_of, AreEarlier}
 use Rattle.lawful_records.specs.Cycling.{announced_by, cycle_of}
-use Rattle.lawful_records.specs.JobStands.{stand_of, IsMovedBy, StandsAt}
+use Rattle.lawful_records.specs.Counts.{HasCounted, unsealed_in}
+use Rattle.lawful_records.specs.JobStands.{IsPlan, stand_of, IsMovedBy, StandsAt}
 use Rattle.lawful_records.specs.Searches.{SearchStands}
 use Rattle.lawful_records.specs.Making.{IsRoom, IsMaking, has_room, lens_of}
 use Rattle.lawful_records.specs.Records.{registers_by, room_by, made_by as made_count, number_of, acked_of, mark_of, side_of, seen_of}
@@ -162,13 +162,15 @@ module _ {R W E M : Type 0} (kit : Kit R W E M) where
     pub machine : q.machine ≡ k
     pub cycles : ℕ
     pub few : cycles ≤ 64
-    pub collects : IsCollector l kit.kind cycles k
-    pub job : StandsAt kit l (cycle_of k) s (stand_of k)
+    pub plan : IsPlan kit.kind l q.plan
+    pub collects : IsCollector l kit.kind cycles q.plan k
+    pub jobs : StandsAt kit l (cycle_of k) s (stand_of q.plan k)
     pub search : SearchStands l (cycle_of k) s k
     pub awaited : AreEarlier (length s.history) q.awaited
     pub sealed : AreSealed s q.sealed
-    -- until cycles are planned only the common object is ever sealed
-    pub only : All (λ (one : Sealed). one.at ≡ first_word l EMPTIED) q.sealed
+    -- each job seals one object at most
+    pub counted : HasCounted (unsealed_in s k) k (length q.sealed)
+    pub fit : length q.sealed ≤ (let plan = q.plan in length plan.jobs)
 
   abbrev pub IsParty : Sizes → CollectorMachine M → Space → Notices → Party R W E M → Type 0
   IsParty l k s n (party.Pass p) = IsPassRecord l (announced_by k) (cycle_of k) s n p

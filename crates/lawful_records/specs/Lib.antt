@@ -5,6 +5,7 @@ pub mod Frames
 pub mod Handshakes
 pub mod HeaderChanges
 pub mod JobStands
+pub mod Counts
 pub mod Jobs
 pub mod LawfulRecords
 pub mod Making

@@ -12,6 +12,7 @@ use Rattle.barriers.specs.Kits.{Kit}
 use Rattle.barriers.specs.Says.{head_word}
 use Rattle.barriers.specs.States.{Plain}
 use Rattle.lawful_records.specs.Collectors.{collector_of, none_awaited}
+use Rattle.lawful_records.specs.Jobs.{first_plan}
 use Rattle.lawful_records.specs.declared.records.PassKnown.{PassKnown}
 use Rattle.lawful_records.specs.declared.records.Party.{Party}
 use Rattle.lawful_records.specs.declared.records.Party.TheVariants as party
@@ -45,6 +46,6 @@ opening_passes l pass zero = []
 opening_passes l pass (suc count) = party.Pass (opening_pass l pass) ∷ opening_passes l (pass + 1) count
 
 module _ {R W E M : Type 0} (kit : Kit R W E M) where
-  -- the passes of the layout, and a collector that plays so many cycles, whose marks a salt draws
+  -- the passes of the layout, and a collector that plays so many cycles, whose marks a salt draws, of which the first has a plan
   abbrev pub opening_parties : Sizes → ℕ → ℕ → List (Party R W E M)
-  opening_parties l cycles salt = opening_passes l 1 l.passes ++ party.Collector (record { machine = collector_of kit l cycles salt; awaited = none_awaited; sealed = [] }) ∷ []
+  opening_parties l cycles salt = opening_passes l 1 l.passes ++ party.Collector (record { machine = collector_of kit (first_plan kit.kind l) l cycles salt; plan = first_plan kit.kind l; awaited = none_awaited; sealed = [] }) ∷ []

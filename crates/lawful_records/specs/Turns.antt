@@ -17,6 +17,7 @@ use Rattle.barriers.specs.Protocols.{has_made}
 use Rattle.barriers.specs.Kits.{Kit, Stepping}
 use Rattle.barriers.specs.PassMachines as pass_machines
 use Rattle.space_reclaim.specs.declared.move_job.MoveJob.{MoveJob}
+use Rattle.space_reclaim.specs.Plans.{Planned}
 use Rattle.lawful_records.specs.declared.collector.CollectorMachine.{CollectorMachine}
 use Rattle.lawful_records.specs.Collectors.{seals_of, awaits_behind}
 use Rattle.lawful_records.specs.Collectors as collectors
@@ -115,7 +116,7 @@ module _ {R W E M : Type 0} (kit : Kit R W E M) (by : Stepping R W E M) where
   abbrev pub collector_asks : CollectorMachine M → Step
   collector_asks = collectors.asks_of by.move_asks
 
-  abbrev pub collector_fed : CollectorMachine M → ℕ → CollectorMachine M
+  abbrev pub collector_fed : Planned → CollectorMachine M → ℕ → CollectorMachine M
   collector_fed = collectors.fed_of kit by.move_fed
 
   -- what its step seals, where this is the history and it finds this word
@@ -125,8 +126,9 @@ module _ {R W E M : Type 0} (kit : Kit R W E M) (by : Stepping R W E M) where
   -- the collector that took its step
   abbrev pub collector_turned : List Call → CollectorKnown M → ℕ → CollectorKnown M
   collector_turned h q n = record {
-    machine = collector_fed q.machine n;
-    awaited = awaits_behind q.machine (collector_fed q.machine n) (length h) q.awaited;
+    machine = collector_fed q.plan q.machine n;
+    plan = q.plan;
+    awaited = awaits_behind q.machine (collector_fed q.plan q.machine n) (length h) q.awaited;
     sealed = q.sealed ++ sealed_now q.machine h n;
   }
 

@@ -1,29 +1,33 @@
 //! The collector plays its cycles: it announces one phase after another, awaits after each announcement the answer
-//! of every pass, seeks a mark where the copier needs one, and moves the job of a cycle once all have acknowledged the
-//! last Copy word.
+//! of every pass, seeks a mark where the copier needs one, and moves the jobs of a cycle's plan, in their order, once
+//! all have acknowledged the last Copy word.
 
 ghost use Rattle.std.specs.Prelude.{◌≡◌, ◌≢◌, ◌≤◌, ◌<◌};
 ghost use Rattle.call_steps.specs.declared.step.Step.TheVariants.{Store, Ended as StepEnded};
-ghost use Rattle.heap_words.specs.Layouts.{IsPass, region_at as region_at_in};
+ghost use Rattle.heap_words.specs.Layouts.{IsPass};
 ghost use Rattle.space_reclaim.specs.RegionWords.{IsRegionWord, word_of_region};
-ghost use Rattle.lawful_records.specs.Collectors.{planned as planned_in, look as look_at, seek_at, sought_on, to_copy as to_copy_by, move_at, to_fix as to_fix_by, targeted as targeted_by, behind_by, awaited as awaited_by, looked as looked_by, moved_on as moved_on_by, asks_of as asks_by, fed_of as fed_by, seals_of, move_ended as move_ended_by, seek_ended, collector_of};
+ghost use Rattle.std.specs.Prelude.{length, ◌==◌};
+ghost use Rattle.std.specs.List.{slice_get, prefix_len};
+ghost use Rattle.lawful_records.specs.Collectors.{is_planned as is_planned_at, used_at, target_of as target_in, look as look_at, seek_at, sought_on, to_copy as to_copy_by, tag_at, move_at, moves_at, targeted as targeted_by, target_at, source_at, work_at, to_fix as to_fix_by, behind_by, awaited as awaited_by, looked as looked_by, moved_on as moved_on_by, asks_of as asks_by, fed_of as fed_by, seals_of, move_ended as move_ended_by, seek_ended, collector_of};
+ghost use Rattle.barriers.specs.Rows.{region_of as region_in};
 
-use crate::job::{EMPTIED, FILLED, does_seal, tagged_word};
+use crate::job::{does_seal, tagged_word};
 use crate::stage::{Announcement, Marks, SEARCHES, Stage, seeks_mark};
 use barriers::{Copier, MoveEnd};
 use call_steps::{Machine, Step};
 use handshakes::{AwaitEnd, AwaitMachine};
-use heap_words::Layout;
+use heap_words::{Layout, REGION_WORDS};
 use mark_search::{Candidates, SeekEnd, SeekMarkMachine};
-use space_reclaim::{MoveJob, RegionWord};
+use space_reclaim::{MoveJob, Plan, RegionWord};
 
 /// Stores the phase word of each announcement, and after each loads the acknowledgement of one pass after another,
 /// in rising number, again and again until it is the announced word or that of Retired. Where the copier puts marks
 /// in place of values, it seeks one after Confirm: it stores a candidate in the mark word, announces its Search, and
 /// loads each field of each object; a field that holds the candidate ends the search, and the next one is drawn, of
-/// which there are eight at most. Where objects are tagged it tags the object of the cycle's job before it announces
-/// Copy. It moves that object before it announces Fix, where the cycle has a job. Neither an await nor a move has a
-/// bound.
+/// which there are eight at most. Then it works on the plan of the cycle. It stores Source in the words of the regions
+/// that are emptied and Target in those of the regions to which objects are copied, each in rising number. Where objects
+/// are tagged it tags those of the jobs, in the order of the plan, all before it announces Copy. Before it announces Fix
+/// it moves them, in the same order. Neither an await nor a move has a bound.
 #[derive(Clone, Copy, Debug, PartialEq, Eq)]
 pub enum CollectorMachine<M> {
     /// Announces this stage.
@@ -41,42 +45,72 @@ pub enum CollectorMachine<M> {
         stage: Stage,
         machine: SeekMarkMachine,
     },
-    /// Stores Source in the word of the region that is emptied.
+    /// Stores Source in the word of a region that is emptied; `next` is the place of the following one in the plan.
     Source {
         stage: Stage,
-        job: MoveJob,
+        region: u32,
+        next: usize,
     },
-    /// Stores Target in the word of the region to which it copies.
+    /// Stores Target in the word of a region to which it copies; `next` is the place in the plan of the first job after
+    /// it that copies elsewhere.
     Target {
         stage: Stage,
-        job: MoveJob,
+        region: u32,
+        next: usize,
     },
-    /// Exchanges the header of the job's object from Plain to Tagged.
+    /// Exchanges the header of a job's object from Plain to Tagged; `next` is the place of the following job.
     Tag {
         stage: Stage,
         job: MoveJob,
+        next: usize,
     },
-    /// Moves the object, by this machine.
+    /// Moves the object of a job, by this machine; `next` is the place of the following job.
     Move {
         stage: Stage,
         job: MoveJob,
+        next: usize,
         machine: M,
     },
     /// All passes have answered the last stage.
     Done(Stage),
 }
 
+/// The region of a word; 0 before the first region.
+#[tactic(auto, using(crate::proofs::JobLaws::first_there), unfolding(barriers::specs::Rows::region_of))]
+fn region_of(layout: &Layout, at: u32) -> u32
+    ensures { result ≡ region_in layout.now at }
+{
+    prove!(layout.passes() >= 1);
+    at.saturating_sub(layout.first_word(0)) / REGION_WORDS
+}
+
+/// How many jobs at the front copy to a region.
+fn count_to(layout: &Layout, jobs: &[MoveJob], region: u32) -> usize
+    ensures run { result ≡ prefix_len (λ j. target_in layout.now j == region) jobs.now }
+    ensures few { result ≤ length jobs.now }
+{
+    jobs.iter()
+        .take_while(|job| region_of(layout, job.to) == region)
+        .count()
+}
+
 impl Stage {
-    /// The store of what one of the first two regions is used for.
-    #[tactic(auto, using(crate::proofs::JobLaws::region_there))]
+    /// Whether its cycle has the plan: until cycles are planned anew, the first one.
+    fn is_planned(&self) -> bool
+        ensures { result ≡ is_planned_at self.now }
+    {
+        self.cycle == 1
+    }
+
+    /// The store of what a region is used for.
+    #[tactic(auto, using(crate::proofs::JobLaws::first_there))]
     fn use_region(&self, region: u32, used: RegionWord) -> Step
-        requires first { region < 2 }
-        requires fits { IsRegionWord used }
-        ensures { result ≡ Store (region_at_in self.now.layout region) (word_of_region used) }
+        requires { IsRegionWord used }
+        ensures { result ≡ Store (used_at self.now.layout region) (word_of_region used) }
     {
         prove!(self.layout.passes() >= 1);
         Step::Store {
-            at: self.layout.region_at(region),
+            at: self.layout.region_at(0).saturating_add(region),
             put: used.pack(),
         }
     }
@@ -101,18 +135,106 @@ impl Stage {
         self.look(1)
     }
 
-    /// What comes before Copy is announced: the search for a mark; or the tag of the job's object, if the cycle has a
-    /// job.
-    fn to_copy<M>(&self) -> CollectorMachine<M>
-        ensures { result ≡ to_copy_by (planned_in self.now) self.now }
+    /// What comes before Copy is announced: the search for a mark; or the work on the plan.
+    fn to_copy<P: Copier>(&self, plan: &Plan) -> CollectorMachine<P::Move>
+        ensures { result ≡ to_copy_by P.kit plan.now self.now }
     {
         if seeks_mark(self.kind) {
             return CollectorMachine::Draw(self.search(1));
         }
-        let stage = self.at(Announcement::Copy);
-        match self.job() {
-            None => CollectorMachine::Announce(stage),
-            Some(job) => CollectorMachine::Source { stage, job },
+        self.at(Announcement::Copy).work::<P>(plan)
+    }
+
+    /// The tag of the object of the job with this number. After the last one this stage is announced.
+    fn tag<M>(&self, plan: &Plan, at: usize) -> CollectorMachine<M>
+        ensures { result ≡ tag_at (slice_get plan.now.jobs at) self.now at }
+    {
+        match plan.jobs().get(at) {
+            None => CollectorMachine::Announce(*self),
+            Some(job) => CollectorMachine::Tag {
+                stage: *self,
+                job: *job,
+                next: at + 1,
+            },
+        }
+    }
+
+    /// The move of the object of the job with this number. After the last one this stage is announced.
+    fn moving<P: Copier>(&self, plan: &Plan, at: usize) -> CollectorMachine<P::Move>
+        ensures { result ≡ move_at P.kit (slice_get plan.now.jobs at) self.now at }
+    {
+        match plan.jobs().get(at) {
+            None => CollectorMachine::Announce(*self),
+            Some(job) => CollectorMachine::Move {
+                stage: *self,
+                job: *job,
+                next: at + 1,
+                machine: P::move_one(&self.layout, *job, self.mark()),
+            },
+        }
+    }
+
+    /// What comes when the regions of the plan have their words: tags; or, without them, moves.
+    fn targeted<P: Copier>(&self, plan: &Plan) -> CollectorMachine<P::Move>
+        ensures { result ≡ targeted_by P.kit plan.now self.now }
+    {
+        if seeks_mark(self.kind) {
+            self.moving::<P>(plan, 0)
+        } else {
+            self.tag(plan, 0)
+        }
+    }
+
+    /// The word of the region to which the job with this number copies, and those after it that copy there too.
+    fn target<P: Copier>(&self, plan: &Plan, at: usize) -> CollectorMachine<P::Move>
+        ensures { result ≡ target_at P.kit plan.now (slice_get plan.now.jobs at) self.now at }
+    {
+        let jobs = plan.jobs();
+        let Some(job) = jobs.get(at) else {
+            return self.targeted::<P>(plan);
+        };
+        let region = region_of(&self.layout, job.to);
+        let (_, rest) = jobs.split_at(at);
+        CollectorMachine::Target {
+            stage: *self,
+            region,
+            next: at + count_to(&self.layout, rest, region),
+        }
+    }
+
+    /// The word of the chosen region with this number.
+    fn source<P: Copier>(&self, plan: &Plan, at: usize) -> CollectorMachine<P::Move>
+        ensures { result ≡ source_at P.kit plan.now (slice_get plan.now.chosen at) self.now at }
+    {
+        match plan.chosen().get(at) {
+            None => self.target::<P>(plan, 0),
+            Some(region) => CollectorMachine::Source {
+                stage: *self,
+                region: *region,
+                next: at + 1,
+            },
+        }
+    }
+
+    /// The work on the plan before this stage is announced, if its cycle has it.
+    fn work<P: Copier>(&self, plan: &Plan) -> CollectorMachine<P::Move>
+        ensures { result ≡ work_at P.kit plan.now self.now }
+    {
+        if self.is_planned() {
+            self.source::<P>(plan, 0)
+        } else {
+            CollectorMachine::Announce(*self)
+        }
+    }
+
+    /// The moves of the plan before this stage is announced, if its cycle has it.
+    fn moves<P: Copier>(&self, plan: &Plan) -> CollectorMachine<P::Move>
+        ensures { result ≡ moves_at P.kit plan.now self.now }
+    {
+        if self.is_planned() {
+            self.moving::<P>(plan, 0)
+        } else {
+            CollectorMachine::Announce(*self)
         }
     }
 
@@ -151,49 +273,27 @@ impl Stage {
         }
     }
 
-    /// The move of a job's object, before this stage is announced.
-    fn moving<P: Copier>(&self, job: MoveJob) -> CollectorMachine<P::Move>
-        ensures { result ≡ move_at P.kit self.now job }
-    {
-        CollectorMachine::Move {
-            stage: *self,
-            job,
-            machine: P::move_one(&self.layout, job, self.mark()),
-        }
-    }
-
-    /// What comes before Fix is announced: the move of the job's object.
-    fn to_fix<P: Copier>(&self) -> CollectorMachine<P::Move>
-        ensures { result ≡ to_fix_by P.kit (planned_in self.now) self.now }
+    /// What comes before Fix is announced: the work on the plan, where a mark was sought; or its moves.
+    fn to_fix<P: Copier>(&self, plan: &Plan) -> CollectorMachine<P::Move>
+        ensures { result ≡ to_fix_by P.kit plan.now self.now }
     {
         let stage = self.at(Announcement::Fix);
-        match self.job() {
-            None => CollectorMachine::Announce(stage),
-            Some(job) if seeks_mark(self.kind) => CollectorMachine::Source { stage, job },
-            Some(job) => stage.moving::<P>(job),
-        }
-    }
-
-    /// What comes when the regions of a job have their words: the tag of its object; or, without tags, its move.
-    fn targeted<P: Copier>(&self, job: MoveJob) -> CollectorMachine<P::Move>
-        ensures { result ≡ targeted_by P.kit self.now job }
-    {
         if seeks_mark(self.kind) {
-            self.moving::<P>(job)
+            stage.work::<P>(plan)
         } else {
-            CollectorMachine::Tag { stage: *self, job }
+            stage.moves::<P>(plan)
         }
     }
 
     /// What comes when all passes have answered.
-    fn behind<P: Copier>(&self) -> CollectorMachine<P::Move>
-        ensures { result ≡ behind_by P.kit self.now.announcement self.now }
+    fn behind<P: Copier>(&self, plan: &Plan) -> CollectorMachine<P::Move>
+        ensures { result ≡ behind_by P.kit plan.now self.now.announcement self.now }
     {
         match self.announcement {
             Announcement::Mark => CollectorMachine::Announce(self.at(Announcement::Confirm)),
-            Announcement::Confirm => self.to_copy(),
+            Announcement::Confirm => self.to_copy::<P>(plan),
             Announcement::Search => self.to_seek(),
-            Announcement::Copy => self.to_fix::<P>(),
+            Announcement::Copy => self.to_fix::<P>(plan),
             Announcement::Fix => CollectorMachine::Announce(self.at(Announcement::Free)),
             Announcement::Free if self.cycle < self.cycles => {
                 CollectorMachine::Announce(Stage {
@@ -207,26 +307,27 @@ impl Stage {
     }
 
     /// What comes when this pass and those before it have answered.
-    fn awaited<P: Copier>(&self, pass: u32) -> CollectorMachine<P::Move>
-        ensures { result ≡ awaited_by P.kit self.now pass }
+    fn awaited<P: Copier>(&self, plan: &Plan, pass: u32) -> CollectorMachine<P::Move>
+        ensures { result ≡ awaited_by P.kit plan.now self.now pass }
     {
         if pass < self.layout.passes() {
             return self.look(pass + 1);
         }
-        self.behind::<P>()
+        self.behind::<P>(plan)
     }
 
     /// What comes when a look at this pass has ended. Without an answer the next look is the same one.
     fn looked<P: Copier>(
         &self,
+        plan: &Plan,
         pass: u32,
         look: AwaitMachine,
         end: Option<AwaitEnd>,
     ) -> CollectorMachine<P::Move>
-        ensures { result ≡ looked_by P.kit self.now pass look end }
+        ensures { result ≡ looked_by P.kit plan.now self.now pass look end }
     {
         match end {
-            Some(AwaitEnd::Answered) | Some(AwaitEnd::Retired) => self.awaited::<P>(pass),
+            Some(AwaitEnd::Answered) | Some(AwaitEnd::Retired) => self.awaited::<P>(plan, pass),
             Some(AwaitEnd::NotYet { .. }) | None => CollectorMachine::Await {
                 stage: *self,
                 pass,
@@ -235,17 +336,24 @@ impl Stage {
         }
     }
 
-    /// What comes after a step of the move: the next one, or the announcement when it has ended.
-    fn moved<P: Copier>(&self, job: MoveJob, machine: P::Move) -> CollectorMachine<P::Move>
+    /// What comes after a step of the move of a job's object: the next step, or when it has ended the next move.
+    fn moved<P: Copier>(
+        &self,
+        plan: &Plan,
+        job: MoveJob,
+        next: usize,
+        machine: P::Move,
+    ) -> CollectorMachine<P::Move>
     where
         P::Move: Copy,
-        ensures { result ≡ moved_on_by P.kit self.now job machine }
+        ensures { result ≡ moved_on_by P.kit plan.now self.now job next machine }
     {
         match P::move_end(&machine) {
-            Some(_) => CollectorMachine::Announce(*self),
+            Some(_) => self.moving::<P>(plan, next),
             None => CollectorMachine::Move {
                 stage: *self,
                 job,
+                next,
                 machine,
             },
         }
@@ -253,9 +361,14 @@ impl Stage {
 
     /// The collector of a copier before the first of so many cycles, whose marks this salt draws; with none it is
     /// done.
-    pub fn first<P: Copier>(layout: &Layout, cycles: u32, salt: u64) -> CollectorMachine<P::Move>
+    pub fn first<P: Copier>(
+        layout: &Layout,
+        plan: &Plan,
+        cycles: u32,
+        salt: u64,
+    ) -> CollectorMachine<P::Move>
         requires { cycles ≤ 64 }
-        ensures { result ≡ collector_of P.kit layout.now cycles salt }
+        ensures { result ≡ collector_of P.kit plan.now layout.now cycles salt }
     {
         let stage = Stage {
             layout: *layout,
@@ -269,7 +382,7 @@ impl Stage {
                 clear: false,
             },
         };
-        stage.behind::<P>()
+        stage.behind::<P>(plan)
     }
 }
 
@@ -289,8 +402,12 @@ impl<M: Machine> CollectorMachine<M> {
                 put: stage.mark(),
             },
             CollectorMachine::Seek { machine, .. } => machine.ask(),
-            CollectorMachine::Source { stage, .. } => stage.use_region(EMPTIED, RegionWord::Source),
-            CollectorMachine::Target { stage, .. } => stage.use_region(FILLED, RegionWord::Target),
+            CollectorMachine::Source { stage, region, .. } => {
+                stage.use_region(*region, RegionWord::Source)
+            }
+            CollectorMachine::Target { stage, region, .. } => {
+                stage.use_region(*region, RegionWord::Target)
+            }
             CollectorMachine::Tag { job, .. } => Step::Exchange {
                 at: job.from,
                 want: job.header,
@@ -312,12 +429,12 @@ impl<M: Machine> CollectorMachine<M> {
     }
 }
 
-/// The collector's machine goes on from the word that its step found.
-pub fn feed_collector<P: Copier>(collector: &mut CollectorMachine<P::Move>, found: u64)
+/// The collector's machine goes on from the word that its step found, where this is planned.
+pub fn feed_collector<P: Copier>(collector: &mut CollectorMachine<P::Move>, plan: &Plan, found: u64)
 where
     P::Move: Copy,
     requires { asks_by P.Move.asks collector.old ≢ StepEnded }
-    ensures { collector.new ≡ fed_by P.kit P.Move.fed collector.old found }
+    ensures { collector.new ≡ fed_by P.kit P.Move.fed plan.now collector.old found }
 {
     *collector = match *collector {
         CollectorMachine::Announce(stage) => stage.first_look(),
@@ -328,7 +445,7 @@ where
         } => {
             let mut fed = machine;
             fed.feed(found);
-            stage.looked::<P>(pass, machine, fed.end())
+            stage.looked::<P>(plan, pass, machine, fed.end())
         }
         CollectorMachine::Draw(stage) => CollectorMachine::Announce(stage),
         CollectorMachine::Seek { stage, machine } => {
@@ -336,25 +453,27 @@ where
             fed.feed(found);
             stage.sought(fed)
         }
-        CollectorMachine::Source { stage, job } => CollectorMachine::Target { stage, job },
-        CollectorMachine::Target { stage, job } => stage.targeted::<P>(job),
-        CollectorMachine::Tag { stage, .. } => CollectorMachine::Announce(stage),
+        CollectorMachine::Source { stage, next, .. } => stage.source::<P>(plan, next),
+        CollectorMachine::Target { stage, next, .. } => stage.target::<P>(plan, next),
+        CollectorMachine::Tag { stage, next, .. } => stage.tag(plan, next),
         CollectorMachine::Move {
             stage,
             job,
+            next,
             machine,
         } => {
             let mut fed = machine;
             fed.feed(found);
-            stage.moved::<P>(job, fed)
+            stage.moved::<P>(plan, job, next, fed)
         }
         CollectorMachine::Done(stage) => CollectorMachine::Done(stage),
     };
 }
 
-/// The collector's machine with a copier, as the machine that it is.
+/// The collector's machine with a copier and the plan of its first cycle, as the machine that they are.
 pub struct CycleMachine<P: Copier> {
     pub collector: CollectorMachine<P::Move>,
+    pub plan: Plan,
 }
 
 impl<P: Copier> Machine for CycleMachine<P>
@@ -365,17 +484,17 @@ where
 
     ghost asks = { λ m. asks_of P.Move.asks m.collector };
 
-    ghost fed = { λ m found. record { collector = fed_of P.kit P.Move.fed m.collector found } };
+    ghost fed = { λ m found. record m { collector = fed_of P.kit P.Move.fed m.plan m.collector found } };
 
-    ghost blind = { λ m at put n is. alike (λ k. record { collector = k }) _ _
-        (blind_of P.kit P.Move.asks P.Move.fed P.Move.blind m.collector at put n is) };
+    ghost blind = { λ m at put n is. alike (λ k. record m { collector = k }) _ _
+        (blind_of P.kit P.Move.asks P.Move.fed P.Move.blind m.plan m.collector at put n is) };
 
     fn ask(&self) -> Step {
         self.collector.ask()
     }
 
     fn feed(&mut self, found: u64) {
-        feed_collector::<P>(&mut self.collector, found);
+        feed_collector::<P>(&mut self.collector, &self.plan, found);
     }
 }
 

@@ -1,14 +1,15 @@
-//! What a cycle moves, until cycles are planned: the first one moves the object that is there from the start, from the
-//! first word of region 0 to the first word of region 1.
+//! What the first cycle moves, until cycles are planned: the object that is there from the start, from the first word of
+//! region 0 to the first word of region 1.
 
-ghost use Rattle.std.specs.Prelude.{◌≡◌};
+ghost use Rattle.std.specs.Prelude.{◌≡◌, IfOk};
 ghost use Rattle.object_headers.specs.Changes.{does_move as does_move_by};
-ghost use Rattle.lawful_records.specs.Jobs.{wide_for as wide_for_job, has_wide_room as has_room, first_job as first_job_of, tagged_word as tagged_word_of, is_tagged as is_tagged_word, does_seal as does_seal_by};
+ghost use Rattle.lawful_records.specs.Jobs.{has_wide_room as has_room, has_job as has_job_in, first_plan as first_plan_of, tagged_word as tagged_word_of, is_tagged as is_tagged_word, does_seal as does_seal_by};
 
-use call_steps::Step;
+use call_steps::{OutOfMemory, Step};
 use heap_words::Layout;
 use object_headers::{Colour, Header, Kind, State};
-use space_reclaim::MoveJob;
+use space_reclaim::{MoveJob, ObjectRow, Plan, RegionLive};
+use std::alloc::Global;
 
 /// The header of the object that is there from the start.
 pub const COMMON: Header = Header {
@@ -29,24 +30,14 @@ pub const FILLED: u32 = 1;
 pub const WIDE_WORDS: u32 = COMMON.len + 1;
 
 /// Whether a copier of this kind moves objects.
-pub fn does_move(kind: Kind) -> bool
+fn does_move(kind: Kind) -> bool
     ensures { result ≡ does_move_by kind }
 {
     !matches!(kind, Kind::AtRest)
 }
 
-/// The address of its wide object, the first of the wide area; 0 where it is not copied through one.
-fn wide_for(layout: &Layout, kind: Kind) -> u32
-    ensures { result ≡ wide_for_job kind layout.now }
-{
-    match kind {
-        Kind::Stopless => layout.wide_at(),
-        Kind::AtRest | Kind::Chicken | Kind::Clover => 0,
-    }
-}
-
-/// Whether the wide area has room for that.
-pub fn has_wide_room(layout: &Layout, kind: Kind) -> bool
+/// Whether the wide area has room for its wide object, if it is to have one.
+fn has_wide_room(layout: &Layout, kind: Kind) -> bool
     ensures { result ≡ has_room kind layout.now }
 {
     match kind {
@@ -55,20 +46,37 @@ pub fn has_wide_room(layout: &Layout, kind: Kind) -> bool
     }
 }
 
-/// The move of the common object.
-#[tactic(auto, using(crate::proofs::JobLaws::emptied_there, crate::proofs::JobLaws::filled_there))]
-pub fn first_job(layout: &Layout, kind: Kind) -> MoveJob
-    ensures { result ≡ first_job_of kind layout.now }
+/// Whether a copier of this kind moves that object: the pool has a second region, and the wide area room.
+fn has_job(layout: &Layout, kind: Kind) -> bool
+    ensures { result ≡ has_job_in kind layout.now }
 {
-    prove!(layout.passes() >= 1);
-    MoveJob {
-        birth: COMMON.birth,
-        from: layout.first_word(EMPTIED),
-        to: layout.first_word(FILLED),
-        wide: wide_for(layout, kind),
-        len: COMMON.len,
-        header: COMMON.pack(),
+    does_move(kind) && layout.pool() >= 2 && has_wide_room(layout, kind)
+}
+
+/// The plan of the first cycle: to move that object, where the pool has a second region and the wide area has room.
+pub fn first_plan(alloc: Global, layout: &Layout, kind: Kind) -> Result<Plan, OutOfMemory>
+    ensures { IfOk result (λ plan. plan ≡ first_plan_of kind layout.now) }
+{
+    let mut plan = Plan::with_room(alloc, layout)?;
+    if has_job(layout, kind) {
+        plan.fill(
+            &[RegionLive {
+                region: EMPTIED,
+                words: COMMON.len + 1,
+            }],
+            &[ObjectRow {
+                region: EMPTIED,
+                birth: COMMON.birth,
+                at: layout.first_word(EMPTIED),
+                len: COMMON.len,
+                header: COMMON.pack(),
+            }],
+            &[FILLED],
+            layout.wide(),
+            kind,
+        );
     }
+    Ok(plan)
 }
 
 /// The word of the same header when it is Tagged; any word but that of a Plain header stays what it is.

@@ -9,6 +9,6 @@ mod stage;
 
 pub use awaited::Awaited;
 pub use collector::{CollectorMachine, CycleMachine, feed_collector, move_end_of, seek_end_of};
-pub use job::COMMON;
+pub use job::{COMMON, first_plan};
 pub use records::{CollectorKnown, Party, PassKnown, Sealed};
 pub use stage::{Announcement, Marks, Stage};

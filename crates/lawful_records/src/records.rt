@@ -4,6 +4,7 @@ use crate::awaited::Awaited;
 use crate::collector::CollectorMachine;
 use barriers::PassRecord;
 use heap_history::{Call, Ended};
+use space_reclaim::Plan;
 use std::collections::LinkedList;
 
 /// What is known of a pass.
@@ -30,6 +31,8 @@ pub struct Sealed {
 /// What is known of the collector.
 pub struct CollectorKnown<M> {
     pub machine: CollectorMachine<M>,
+    /// What its first cycle moves.
+    pub plan: Plan,
     /// How many changes there were when the awaits of the running cycle ended.
     pub awaited: Awaited,
     /// The objects that are sealed, in the order of their seals.

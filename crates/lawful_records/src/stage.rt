@@ -3,14 +3,12 @@
 ghost use Rattle.std.specs.Prelude.{◌≡◌, ◌≢◌, ◌<◌, ◌^◌};
 ghost use Rattle.handshakes.specs.PhaseWords.{retired_word, word_of_phase};
 ghost use Rattle.object_headers.specs.Changes.{is_clover};
-ghost use Rattle.lawful_records.specs.Collectors.{word_of, said_in, phase_of as phase_in, round_of, mark_word, planned as planned_in, searched};
+ghost use Rattle.lawful_records.specs.Collectors.{word_of, said_in, phase_of as phase_in, round_of, mark_word, searched};
 
-use crate::job::{does_move, first_job, has_wide_room};
 use handshakes::{Phase, PhaseWord};
 use heap_words::Layout;
 use mark_search::Candidates;
 use object_headers::Kind;
-use space_reclaim::MoveJob;
 
 /// What the collector announces in a cycle, in this order. Search is said only where a mark is sought: once for each
 /// candidate.
@@ -118,21 +116,6 @@ impl Stage {
         ensures { result ≡ mark_word self.now }
     {
         self.marks.candidates.last()
-    }
-
-    /// The job of its cycle, if it has one.
-    pub fn job(&self) -> Option<MoveJob>
-        ensures { result ≡ planned_in self.now }
-    {
-        if does_move(self.kind)
-            && self.layout.pool() >= 2
-            && self.cycle == 1
-            && has_wide_room(&self.layout, self.kind)
-        {
-            Some(first_job(&self.layout, self.kind))
-        } else {
-            None
-        }
     }
 
     /// Another announcement of this cycle.

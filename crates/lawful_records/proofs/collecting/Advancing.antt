@@ -14,7 +14,7 @@ use Rattle.mark_search.specs.declared.seek.SeekEnd.TheVariants.{Clear, MarkFound
 use Rattle.mark_search.specs.declared.seek.SeekMarkMachine.{SeekMarkMachine}
 use Rattle.mark_search.specs.declared.candidates.Candidates.{Candidates}
 use Rattle.mark_search.specs.Draws.{last_of, drawn_on}
-use Rattle.space_reclaim.specs.declared.move_job.MoveJob.{MoveJob}
+use Rattle.space_reclaim.specs.Plans.{Planned}
 use Rattle.barriers.specs.Kits.{Kit}
 use Rattle.lawful_records.specs.declared.stage.Announcement.{Announcement}
 use Rattle.lawful_records.specs.declared.stage.Announcement.TheVariants.{Mark, Confirm, Search, Copy, Fix, Free}
@@ -23,10 +23,11 @@ use Rattle.lawful_records.specs.declared.stage.Stage.{Stage}
 use Rattle.lawful_records.specs.declared.collector.CollectorMachine.{CollectorMachine}
 use Rattle.lawful_records.specs.declared.collector.CollectorMachine.TheVariants as collector
 use Rattle.lawful_records.specs.declared.stage.TheConstants.{SEARCHES}
-use Rattle.lawful_records.specs.Collectors.{mark_word, undrawn, unsearched, searched, is_refused, stage_before, stage_of, passed_of, drawn_of, planned, fed_of, look, looked, sought, to_tag, move_at, to_fix, behind_by}
-use Rattle.lawful_records.specs.Cycling.{announced_at, announced_by, clear_by, clear_awaiting}
+use Rattle.lawful_records.specs.Collectors.{mark_word, undrawn, unsearched, searched, is_refused, stage_before, stage_of, passed_of, drawn_of, fed_of, look, looked, sought, work_at, moves_at, behind_by}
+use Rattle.lawful_records.specs.Cycling.{announced_at, announced_by, clear_by, clear_until, clear_awaiting}
 use Rattle.lawful_records.specs.Handshakes.{HasDrawn, IsMarked, IsStage, IsSearch}
 use Rattle.lawful_records.proofs.collecting.Playing.{look_tells, has_drawn, seeks_marks}
+use Rattle.lawful_records.proofs.collecting.Works.{IsBefore, stage_is, passed_is, drawn_is, clear_is, works_before, moves_before}
 
 -- ---- the stage that is announced
 
@@ -51,7 +52,7 @@ undrawn_same c few = ap (λ (n : ℕ). record c { drawn = n }) (same_count c.dra
 
 -- ---- what comes after a stage
 
-module _ {R W E M : Type 0} (kit : Kit R W E M) (l : Sizes) (kind : Kind) (cycles : ℕ) (s : Stage) (is : IsStage l kind cycles s) where
+module _ {R W E M : Type 0} (kit : Kit R W E M) (plan : Planned) (l : Sizes) (kind : Kind) (cycles : ℕ) (s : Stage) (is : IsStage l kind cycles s) where
   abbrev Same : CollectorMachine M → Type 0
   Same k = Says (stage_of k) s × (passed_of k ≡ s.layout.passes)
 
@@ -69,16 +70,16 @@ module _ {R W E M : Type 0} (kit : Kit R W E M) (l : Sizes) (kind : Kind) (cycle
   first_search : s.announcement ≡ Confirm → Says (unsearched (searched s 1)) s
   first_search e n = let same : announced_at (unsearched (searched s 1)) n ≡ announced_at (record s { announcement = Confirm }) n = refl in same ∙ says_as (record s { announcement = Confirm }) s (as_announced s Confirm e) n
 
-  tag_stage : is_clover s.kind ≡ false → s.announcement ≡ Confirm → stage_before (record s { announcement = Copy }) ≡ s
-  tag_stage c e = rw c (as_announced s Confirm e)
+  copy_stage : is_clover s.kind ≡ false → s.announcement ≡ Confirm → stage_before (record s { announcement = Copy }) ≡ s
+  copy_stage c e = rw c (as_announced s Confirm e)
 
-  tag_by : (job : Option MoveJob) → is_clover s.kind ≡ false → s.announcement ≡ Confirm → Same (to_tag job s)
-  tag_by None c e = (says_as (stage_before (record s { announcement = Copy })) s (tag_stage c e), refl)
-  tag_by (Some job) c e = (says_as (stage_before (record s { announcement = Copy })) s (tag_stage c e), refl)
+  -- before a stage is announced whose work announces nothing
+  same_work : (x : Stage) (k : CollectorMachine M) → stage_before x ≡ s → x.layout ≡ s.layout → IsBefore x k → Same k
+  same_work x k e layout before = (says_as (stage_of k) s (stage_is x k before ∙ e), passed_is x k before ∙ ap (λ (t : Sizes). t.passes) layout)
 
-  to_copy_by : (b : Bool) → is_clover s.kind ≡ b → s.announcement ≡ Confirm → Same (if b then collector.Draw (searched s 1) else to_tag (planned s) s)
+  to_copy_by : (b : Bool) → is_clover s.kind ≡ b → s.announcement ≡ Confirm → Same (if b then collector.Draw (searched s 1) else work_at kit plan (record s { announcement = Copy }))
   to_copy_by true c e = (first_search e, refl)
-  to_copy_by false c e = tag_by (planned s) c e
+  to_copy_by false c e = same_work (record s { announcement = Copy }) (work_at kit plan (record s { announcement = Copy })) (copy_stage c e) refl (works_before kit plan (record s { announcement = Copy }))
 
   -- a cycle that comes to Copy is not refused
   unrefused : s.announcement ≡ Copy → is_refused s ≡ false
@@ -91,30 +92,26 @@ module _ {R W E M : Type 0} (kit : Kit R W E M) (l : Sizes) (kind : Kind) (cycle
   before_fix : s.announcement ≡ Copy → stage_before (record s { announcement = Fix }) ≡ s
   before_fix e = rw (unrefused e) (as_announced s Copy e)
 
-  fix_by : (job : MoveJob) (b : Bool) → s.announcement ≡ Copy → Same (if b then collector.Source (record s { announcement = Fix }) job else move_at kit (record s { announcement = Fix }) job)
-  fix_by job true e = (says_as (stage_before (record s { announcement = Fix })) s (before_fix e), refl)
-  fix_by job false e = (says_as (stage_before (record s { announcement = Fix })) s (before_fix e), refl)
+  to_fix_by : (b : Bool) → s.announcement ≡ Copy → Same (if b then work_at kit plan (record s { announcement = Fix }) else moves_at kit plan (record s { announcement = Fix }))
+  to_fix_by true e = same_work (record s { announcement = Fix }) (work_at kit plan (record s { announcement = Fix })) (before_fix e) refl (works_before kit plan (record s { announcement = Fix }))
+  to_fix_by false e = same_work (record s { announcement = Fix }) (moves_at kit plan (record s { announcement = Fix })) (before_fix e) refl (moves_before kit plan (record s { announcement = Fix }))
 
-  to_fix_by : (job : Option MoveJob) → s.announcement ≡ Copy → Same (to_fix kit job s)
-  to_fix_by None e = (says_as (stage_before (record s { announcement = Fix })) s (before_fix e), refl)
-  to_fix_by (Some job) e = fix_by job (is_clover s.kind) e
-
-  same_behind : (a : Announcement) → s.announcement ≡ a → Same (behind_by kit a s)
+  same_behind : (a : Announcement) → s.announcement ≡ a → Same (behind_by kit plan a s)
   same_behind Mark e = (says_as (record s { announcement = Mark }) s (as_announced s Mark e), refl)
   same_behind Confirm e = to_copy_by (is_clover s.kind) refl e
   same_behind Search e = (λ n. refl, refl)
-  same_behind Copy e = to_fix_by (planned s) e
+  same_behind Copy e = to_fix_by (is_clover s.kind) e
   same_behind Fix e = (says_as (record s { announcement = Fix }) s (as_announced s Fix e), refl)
   same_behind Free e = free_by (nat_lt s.cycle s.cycles) e
 
   -- ---- a look
 
-  awaited_says : (pass : ℕ) (more : Bool) → Says (stage_of (if more then look {M = M} s (pass + 1) else behind_by kit s.announcement s)) s
+  awaited_says : (pass : ℕ) (more : Bool) → Says (stage_of (if more then look {M = M} s (pass + 1) else behind_by kit plan s.announcement s)) s
   awaited_says pass true = λ n. refl
   awaited_says pass false = (same_behind s.announcement refl).0
 
   -- it leaves what is announced, whatever it finds
-  pub looked_says : (pass : ℕ) (m : AwaitMachine) (end : Option AwaitEnd) → Says (stage_of (looked kit s pass m end)) s
+  pub looked_says : (pass : ℕ) (m : AwaitMachine) (end : Option AwaitEnd) → Says (stage_of (looked kit plan s pass m end)) s
   looked_says pass m (Some Answered) = awaited_says pass (nat_lt pass s.layout.passes)
   looked_says pass m (Some Retired) = awaited_says pass (nat_lt pass s.layout.passes)
   looked_says pass m (Some (NotYet at found)) = λ n. refl
@@ -123,7 +120,7 @@ module _ {R W E M : Type 0} (kit : Kit R W E M) (l : Sizes) (kind : Kind) (cycle
   passes : s.layout.passes ≡ l.passes
   passes = ap (λ (t : Sizes). t.passes) is.layout
 
-  passed_awaited : (pass : ℕ) (more : Bool) → IsPass l pass → nat_lt pass s.layout.passes ≡ more → passed_of (if more then look {M = M} s (pass + 1) else behind_by kit s.announcement s) ≡ pass - 1 + 1
+  passed_awaited : (pass : ℕ) (more : Bool) → IsPass l pass → nat_lt pass s.layout.passes ≡ more → passed_of (if more then look {M = M} s (pass + 1) else behind_by kit plan s.announcement s) ≡ pass - 1 + 1
   passed_awaited pass true there e = omega (arith, there.0)
   passed_awaited pass false there e =
       let most : s.layout.passes ≤ pass = grind (arith, nat_tests) in
@@ -132,27 +129,27 @@ module _ {R W E M : Type 0} (kit : Kit R W E M) (l : Sizes) (kind : Kind) (cycle
 
   -- the await goes on to the next pass, or the next announcement comes
   advances_awaited : (pass : ℕ) (acked : ℕ → ℕ) (more : Bool) → IsPass l pass → nat_lt pass s.layout.passes ≡ more → HasAnswered (announced_by {M = M} (look s pass)) (acked pass)
-      → Advances l acked (announced_by {M = M} (look s pass)) (announced_by (if more then look s (pass + 1) else behind_by kit s.announcement s))
+      → Advances l acked (announced_by {M = M} (look s pass)) (announced_by (if more then look s (pass + 1) else behind_by kit plan s.announcement s))
   advances_awaited pass acked more there e answered =
       let a : Announced = announced_by {M = M} (look s pass) in
       let same : pass - 1 + 1 ≡ pass = omega (arith, there.0) in
       let step : Advances l acked a (passing a) = Passes (subst (λ (n : ℕ). HasAnswered a (acked n)) (sym same) answered) in
-      let next : CollectorMachine M = if more then look s (pass + 1) else behind_by kit s.announcement s in
+      let next : CollectorMachine M = if more then look s (pass + 1) else behind_by kit plan s.announcement s in
       let leads : announced_by next ≡ passing a = awaited_says pass more (passed_of next) ∙ ap (announced_at s) (passed_awaited pass more there e) in
       subst (Advances l acked a) (sym leads) step
 
   -- a look finds the acknowledgement of its pass
-  pub advances_look : (fed : M → ℕ → M) (pass : ℕ) (acked : ℕ → ℕ) → IsPass l pass → Advances l acked (announced_by {M = M} (look s pass)) (announced_by (fed_of kit fed (look s pass) (acked pass)))
+  pub advances_look : (fed : M → ℕ → M) (pass : ℕ) (acked : ℕ → ℕ) → IsPass l pass → Advances l acked (announced_by {M = M} (look s pass)) (announced_by (fed_of kit fed plan (look s pass) (acked pass)))
   advances_look fed pass acked there =
       let Leads : CollectorMachine M → Type 0 = λ k. Advances l acked (announced_by {M = M} (look s pass)) (announced_by k) in
-      elim (look_tells kit fed s pass (acked pass)) [
+      elim (look_tells kit plan fed s pass (acked pass)) [
         | inl on ↦ subst Leads (sym on.1) (advances_awaited pass acked (nat_lt pass s.layout.passes) there refl on.0)
         | inr again ↦ subst Leads (sym again) Stays
       ]
 
 -- ---- what a look leaves: the mark word, and whether a search has ended clear
 
-module _ {R W E M : Type 0} (kit : Kit R W E M) (l : Sizes) (kind : Kind) (cycles : ℕ) (few : cycles ≤ 64) (s : Stage) (is : IsStage l kind cycles s) where
+module _ {R W E M : Type 0} (kit : Kit R W E M) (plan : Planned) (l : Sizes) (kind : Kind) (cycles : ℕ) (few : cycles ≤ 64) (s : Stage) (is : IsStage l kind cycles s) where
   abbrev Leaves : Announcement → CollectorMachine M → Type 0
   Leaves a k = (drawn_of k ≡ mark_word s) × (clear_by k ≡ clear_awaiting a s.marks.clear)
 
@@ -171,35 +168,32 @@ module _ {R W E M : Type 0} (kit : Kit R W E M) (l : Sizes) (kind : Kind) (cycle
   unclear true marked e = absurd (cc e)
   unclear false marked e = marked.2
 
-  tag_leaves : (job : Option MoveJob) → s.announcement ≡ Confirm → is_clover s.kind ≡ false → Leaves Confirm (to_tag job s)
-  tag_leaves None e c = (refl, unclear (is_clover kind) (marked_as Confirm e) (sym (ap is_clover is.kind_is) ∙ c))
-  tag_leaves (Some job) e c = (refl, unclear (is_clover kind) (marked_as Confirm e) (sym (ap is_clover is.kind_is) ∙ c))
+  -- the work before a stage is announced
+  work_leaves : (a : Announcement) (x : Stage) (k : CollectorMachine M) → mark_word x ≡ mark_word s → clear_until x ≡ clear_awaiting a s.marks.clear → IsBefore x k → Leaves a k
+  work_leaves a x k mark clear before = (drawn_is x k before ∙ mark, clear_is x k before ∙ clear)
 
-  copy_leaves : (b : Bool) → is_clover s.kind ≡ b → s.announcement ≡ Confirm → Leaves Confirm (if b then collector.Draw (searched s 1) else to_tag (planned s) s)
+  copy_leaves : (b : Bool) → is_clover s.kind ≡ b → s.announcement ≡ Confirm → Leaves Confirm (if b then collector.Draw (searched s 1) else work_at kit plan (record s { announcement = Copy }))
   copy_leaves true c e = (ap last_of (undrawn_same s.marks.candidates (before_less (is_clover kind) (marked_as Confirm e))), refl)
-  copy_leaves false c e = tag_leaves (planned s) e c
+  copy_leaves false c e =
+      work_leaves Confirm (record s { announcement = Copy }) (work_at kit plan (record s { announcement = Copy })) refl (unclear (is_clover kind) (marked_as Confirm e) (sym (ap is_clover is.kind_is) ∙ c)) (works_before kit plan (record s { announcement = Copy }))
 
-  fix_leaves : (job : MoveJob) (b : Bool) → Leaves Copy (if b then collector.Source (record s { announcement = Fix }) job else move_at kit (record s { announcement = Fix }) job)
-  fix_leaves job true = (refl, refl)
-  fix_leaves job false = (refl, refl)
+  fix_leaves : (b : Bool) → Leaves Copy (if b then work_at kit plan (record s { announcement = Fix }) else moves_at kit plan (record s { announcement = Fix }))
+  fix_leaves true = work_leaves Copy (record s { announcement = Fix }) (work_at kit plan (record s { announcement = Fix })) refl refl (works_before kit plan (record s { announcement = Fix }))
+  fix_leaves false = work_leaves Copy (record s { announcement = Fix }) (moves_at kit plan (record s { announcement = Fix })) refl refl (moves_before kit plan (record s { announcement = Fix }))
 
-  to_fix_leaves : (job : Option MoveJob) → Leaves Copy (to_fix kit job s)
-  to_fix_leaves None = (refl, refl)
-  to_fix_leaves (Some job) = fix_leaves job (is_clover s.kind)
-
-  behind_leaves : (a : Announcement) → s.announcement ≡ a → Leaves a (behind_by kit a s)
+  behind_leaves : (a : Announcement) → s.announcement ≡ a → Leaves a (behind_by kit plan a s)
   behind_leaves Mark e = (refl, refl)
   behind_leaves Confirm e = copy_leaves (is_clover s.kind) refl e
   behind_leaves Search e = (refl, refl)
-  behind_leaves Copy e = to_fix_leaves (planned s)
+  behind_leaves Copy e = fix_leaves (is_clover s.kind)
   behind_leaves Fix e = (refl, refl)
   behind_leaves Free e = free_leaves (nat_lt s.cycle s.cycles)
 
-  awaited_leaves : (pass : ℕ) (more : Bool) → Leaves s.announcement (if more then look {M = M} s (pass + 1) else behind_by kit s.announcement s)
+  awaited_leaves : (pass : ℕ) (more : Bool) → Leaves s.announcement (if more then look {M = M} s (pass + 1) else behind_by kit plan s.announcement s)
   awaited_leaves pass true = (refl, refl)
   awaited_leaves pass false = behind_leaves s.announcement refl
 
-  pub looked_leaves : (pass : ℕ) (m : AwaitMachine) (end : Option AwaitEnd) → Leaves s.announcement (looked kit s pass m end)
+  pub looked_leaves : (pass : ℕ) (m : AwaitMachine) (end : Option AwaitEnd) → Leaves s.announcement (looked kit plan s pass m end)
   looked_leaves pass m (Some Answered) = awaited_leaves pass (nat_lt pass s.layout.passes)
   looked_leaves pass m (Some Retired) = awaited_leaves pass (nat_lt pass s.layout.passes)
   looked_leaves pass m (Some (NotYet at found)) = (refl, refl)

@@ -10,6 +10,7 @@ use Rattle.object_headers.specs.declared.change.Kind.{Kind}
 use Rattle.object_headers.specs.Changes.{is_clover}
 use Rattle.handshakes.specs.declared.pass_view.PassView.{PassView}
 use Rattle.handshakes.specs.Handshakes.{Announced, AnswersWith}
+use Rattle.space_reclaim.specs.Plans.{Planned}
 use Rattle.barriers.specs.Stances.{stance_at, mark_in}
 use Rattle.barriers.specs.Cycles.{Cycle, Told, Nobody, ToldFits, Handshaken}
 use Rattle.barriers.specs.Kits.{own_of}
@@ -159,13 +160,13 @@ module _ (minds : Bool) (l : Sizes) (kind : Kind) (cycles : ℕ) (few : cycles �
         clear = λ clear. absurd (cc clear);
       })
 
-  pub announced_is : {M : Type 0} (k : CollectorMachine M) → IsCollector l kind cycles k → IsAnnounced minds l (announced_by k) (cycle_of k) (drawn_of k)
-  announced_is (collector.Announce s) is = until_announced s is
-  announced_is {M = M} (collector.Await s pass m) is = await_announced s is.stage M pass m
-  announced_is (collector.Draw s) is = draw_announced s is
-  announced_is (collector.Seek s m) is = seek_announced s is.at
-  announced_is (collector.Source s job) is = until_announced s is.stage
-  announced_is (collector.Target s job) is = until_announced s is.stage
-  announced_is (collector.Tag s job) is = until_announced s is.0.stage
-  announced_is (collector.Move s job m) is = until_announced s is.stage
-  announced_is (collector.Done s) is = done_announced s is
+  pub announced_is : {M : Type 0} (plan : Planned) (k : CollectorMachine M) → IsCollector l kind cycles plan k → IsAnnounced minds l (announced_by k) (cycle_of k) (drawn_of k)
+  announced_is plan (collector.Announce s) is = until_announced s is
+  announced_is {M = M} plan (collector.Await s pass m) is = await_announced s is.stage M pass m
+  announced_is plan (collector.Draw s) is = draw_announced s is
+  announced_is plan (collector.Seek s m) is = seek_announced s is.at
+  announced_is plan (collector.Source s region next) is = until_announced s is.0.stage
+  announced_is plan (collector.Target s region next) is = until_announced s is.0.stage
+  announced_is plan (collector.Tag s job next) is = until_announced s is.0.stage
+  announced_is plan (collector.Move s job next m) is = until_announced s is.0.stage
+  announced_is plan (collector.Done s) is = done_announced s is

@@ -1,29 +1,28 @@
 -- A turn of the collector keeps lawful records.
-use Rattle.std.specs.Prelude.{slice_index, Bool, true, false, if◌then◌else◌}
+use Rattle.std.specs.Prelude.{slice_index, Bool, true, false, if◌then◌else◌, ◌≤◌}
 use Rattle.std.specs.List.{All}
-use Rattle.std.proofs.Common.{◌≡◌, ◌≢◌, ℕ, List, [], ◌∷◌, Some, None, length, get_or, refl, sym, ◌∙◌, subst, arith}
+use Rattle.std.proofs.Common.{◌≢◌, ℕ, List, ◌∷◌, length, get_or, refl, sym, ◌∙◌, subst, arith, length-append, ◌++◌}
 use Rattle.std.proofs.lemmas.List.Elements.{All-head, All-tail}
 use Rattle.call_steps.specs.declared.step.Step.TheVariants.{Ended}
 use Rattle.call_steps.specs.Steps.{place_of, applied, IsInside}
 use Rattle.call_steps.specs.StepLaws.{length-applied}
 use Rattle.heap_words.specs.Layouts.{Sizes, words_of}
 use Rattle.heap_history.specs.declared.call.Call.{Call}
-use Rattle.space_reclaim.specs.declared.move_job.MoveJob.{MoveJob}
+use Rattle.space_reclaim.specs.Plans.{Planned}
 use Rattle.barriers.specs.Spaces.{Space}
 use Rattle.barriers.specs.Says.{Notices}
 use Rattle.barriers.specs.Kits.{Kit, Stepping, Laws}
-use Rattle.lawful_records.specs.declared.job.TheConstants.{EMPTIED, FILLED}
 use Rattle.lawful_records.specs.declared.stage.Announcement.{Announcement}
 use Rattle.lawful_records.specs.declared.stage.Announcement.TheVariants.{Mark, Confirm, Search, Copy, Fix, Free}
 use Rattle.lawful_records.specs.declared.awaited.Awaited.{Awaited}
 use Rattle.lawful_records.specs.declared.collector.CollectorMachine.{CollectorMachine}
 use Rattle.lawful_records.specs.declared.collector.CollectorMachine.TheVariants as collector
-use Rattle.lawful_records.specs.Collectors.{is_await, begun_by, with_await, awaits_behind, seals_of, look, AreEarlier}
+use Rattle.lawful_records.specs.Collectors.{is_await, begun_by, with_await, awaits_behind, look, AreEarlier}
 use Rattle.lawful_records.specs.Handshakes.{IsCollector}
 use Rattle.lawful_records.specs.HeaderChanges.{HeadersChange}
-use Rattle.lawful_records.specs.Jobs.{does_seal}
+use Rattle.lawful_records.specs.JobStands.{IsPlan}
 use Rattle.lawful_records.specs.LawfulRecords.{IsCollectorRecord, IsParty, LawfulRecords}
-use Rattle.lawful_records.specs.Turns.{collector_asks, collector_turned, party_asks, turned}
+use Rattle.lawful_records.specs.Turns.{collector_asks, collector_turned, party_asks, turned, sealed_now, collector_fed}
 use Rattle.lawful_records.specs.declared.records.CollectorKnown.{CollectorKnown}
 use Rattle.lawful_records.specs.declared.records.Sealed.{Sealed}
 use Rattle.lawful_records.specs.declared.records.Party.{Party}
@@ -31,16 +30,17 @@ use Rattle.lawful_records.specs.declared.records.Party.TheVariants as party
 use Rattle.lawful_records.proofs.parties.Assembling.{CollectorMoved, assemble_collector}
 use Rattle.lawful_records.proofs.parties.Counts.{IsPassParty, others_pass}
 use Rattle.lawful_records.proofs.parties.Pasts.{history_is}
-use Rattle.lawful_records.proofs.collecting.FirstJobs.{planned_is}
 use Rattle.lawful_records.proofs.collecting.Goes.{found_in, next_of, CollectorStands, CollectorGoes}
 use Rattle.lawful_records.proofs.collecting.HeardTurns.{heard_goes}
 use Rattle.lawful_records.proofs.collecting.SeekTurns.{draw_inside, draw_goes_on, seek_inside, seek_goes}
-use Rattle.lawful_records.proofs.collecting.WorkTurns.{store_inside, source_goes, target_goes}
+use Rattle.lawful_records.proofs.collecting.WorkTurns.{source_inside, target_inside, source_goes, target_goes}
 use Rattle.lawful_records.proofs.collecting.TagTurns.{tag_inside, tag_goes}
 use Rattle.lawful_records.proofs.collecting.MoveWork.{move_inside}
-use Rattle.lawful_records.proofs.collecting.MoveTurns.{move_goes, sealed_then}
+use Rattle.lawful_records.proofs.collecting.MoveTurns.{move_goes}
 use Rattle.lawful_records.proofs.collecting.Playing.{await_is, plays_fed}
-use Rattle.space_reclaim.specs.declared.region_word.RegionWord.TheVariants as regions
+use Rattle.lawful_records.specs.Counts.{HasCounted, unsealed_in, KeepsSeal}
+use Rattle.std.proofs.lemmas.List.{append-nil}
+use Rattle.lawful_records.proofs.collecting.Counted.{counts_fed, counts_moved, most_unsealed}
 
 -- ---- the counts of its awaits
 
@@ -74,9 +74,9 @@ earlier_after k after changes h are = are
 
 -- ---- its step
 
-module _ {R W E M : Type 0} (kit : Kit R W E M) (by : Stepping R W E M) (laws : Laws kit by) (l : Sizes) (words : List ℕ) (s : Space) (n : Notices) (counts : Awaited) (sealed : List Sealed) where
+module _ {R W E M : Type 0} (kit : Kit R W E M) (by : Stepping R W E M) (laws : Laws kit by) (l : Sizes) (words : List ℕ) (plan : Planned) (s : Space) (n : Notices) (counts : Awaited) (sealed : List Sealed) where
   abbrev Stands : CollectorMachine M → Type 0
-  Stands k = CollectorStands kit by l words s n counts sealed k
+  Stands k = CollectorStands kit by l words plan s n counts sealed k
 
   look_inside : (st : _) (pass : ℕ) → Stands (look st pass) → IsInside (words_of l) (collector_asks kit by (look st pass))
   look_inside st pass stands = let there = stands.collects.in_layout in omega (arith, there.0, there.1)
@@ -86,37 +86,24 @@ module _ {R W E M : Type 0} (kit : Kit R W E M) (by : Stepping R W E M) (laws : 
   inside_of (collector.Await st pass m) stands =
       let same = await_is kit by.move_fed l kit.kind stands.cycles st pass m stands.collects in
       subst (λ (k : CollectorMachine M). IsInside (words_of l) (collector_asks kit by k)) (sym same) (look_inside st pass (subst Stands same stands))
-  inside_of (collector.Draw st) stands = draw_inside kit by laws l words s n counts sealed st stands
-  inside_of (collector.Seek st m) stands = seek_inside kit by laws l words s n counts sealed st m stands
-  inside_of (collector.Source st job) stands =
-      let first = planned_is l kit.kind stands.cycles st job stands.collects.stage stands.collects.job_is in
-      store_inside kit by laws l words s n counts sealed (collector.Source st job) stands st.layout stands.collects.stage.layout EMPTIED (omega arith) first.pool regions.Source (λ e. cc e) tt
-  inside_of (collector.Target st job) stands =
-      let first = planned_is l kit.kind stands.cycles st job stands.collects.stage stands.collects.job_is in
-      store_inside kit by laws l words s n counts sealed (collector.Target st job) stands st.layout stands.collects.stage.layout FILLED (omega arith) first.pool regions.Target (λ e. cc e) tt
-  inside_of (collector.Tag st job) stands = tag_inside kit by laws l words s n counts sealed st job stands
-  inside_of (collector.Move st job m) stands = move_inside kit by laws l words s n counts sealed st job m stands
+  inside_of (collector.Draw st) stands = draw_inside kit by laws l words plan s n counts sealed st stands
+  inside_of (collector.Seek st m) stands = seek_inside kit by laws l words plan s n counts sealed st m stands
+  inside_of (collector.Source st region next) stands = source_inside kit by laws l words plan s n counts sealed st region next stands
+  inside_of (collector.Target st region next) stands = target_inside kit by laws l words plan s n counts sealed st region next stands
+  inside_of (collector.Tag st job next) stands = tag_inside kit by laws l words plan s n counts sealed st job next stands
+  inside_of (collector.Move st job next m) stands = move_inside kit by laws l words plan s n counts sealed st job next m stands
   inside_of (collector.Done st) stands = tt
 
-  goes_of : (k : CollectorMachine M) → Stands k → collector_asks kit by k ≢ Ended → CollectorGoes kit by l words s n sealed k
-  goes_of (collector.Announce st) stands on = heard_goes kit by laws l words s n counts sealed (collector.Announce st) tt stands
-  goes_of (collector.Await st pass m) stands on = heard_goes kit by laws l words s n counts sealed (collector.Await st pass m) tt stands
-  goes_of (collector.Draw st) stands on = draw_goes_on kit by laws l words s n counts sealed st stands
-  goes_of (collector.Seek st m) stands on = seek_goes kit by laws l words s n counts sealed st m stands
-  goes_of (collector.Source st job) stands on = source_goes kit by laws l words s n counts sealed st job stands
-  goes_of (collector.Target st job) stands on = target_goes kit by laws l words s n counts sealed st job stands
-  goes_of (collector.Tag st job) stands on = tag_goes kit by laws l words s n counts sealed st job stands
-  goes_of (collector.Move st job m) stands on = move_goes kit by laws l words s n counts sealed st job m stands
+  goes_of : (k : CollectorMachine M) → Stands k → collector_asks kit by k ≢ Ended → CollectorGoes kit by l words plan s n sealed k
+  goes_of (collector.Announce st) stands on = heard_goes kit by laws l words plan s n counts sealed (collector.Announce st) tt stands
+  goes_of (collector.Await st pass m) stands on = heard_goes kit by laws l words plan s n counts sealed (collector.Await st pass m) tt stands
+  goes_of (collector.Draw st) stands on = draw_goes_on kit by laws l words plan s n counts sealed st stands
+  goes_of (collector.Seek st m) stands on = seek_goes kit by laws l words plan s n counts sealed st m stands
+  goes_of (collector.Source st region next) stands on = source_goes kit by laws l words plan s n counts sealed st region next stands
+  goes_of (collector.Target st region next) stands on = target_goes kit by laws l words plan s n counts sealed st region next stands
+  goes_of (collector.Tag st job next) stands on = tag_goes kit by laws l words plan s n counts sealed st job next stands
+  goes_of (collector.Move st job next m) stands on = move_goes kit by laws l words plan s n counts sealed st job next m stands
   goes_of (collector.Done st) stands on = absurd (on refl)
-
-  alone_by : (yes : Bool) (job x : MoveJob) → (yes ≡ true → sealed ≡ []) → (if yes then Some job else None) ≡ Some x → sealed ≡ []
-  alone_by true job x alone e = alone refl
-  alone_by false job x alone e = absurd (cc e)
-
-  -- where its step seals an object, nothing was sealed before
-  alone_of : (k : CollectorMachine M) → Stands k → (job : MoveJob) → seals_of k (collector_asks kit by k) (found_in kit by l words k) ≡ Some job → sealed ≡ []
-  alone_of (collector.Move st own m) stands job e = alone_by (does_seal own.from (by.move_asks m) (found_in kit by l words (collector.Move st own m))) own job (sealed_then kit by laws l words s n counts sealed st own m stands).2 e
-  alone_of k stands job e = absurd (cc e)
 
 -- ---- the records
 
@@ -125,7 +112,7 @@ module _ {R W E M : Type 0} (kit : Kit R W E M) (by : Stepping R W E M) (laws : 
   own = All-head (IsParty kit l w.collector w.space w.notices) (party.Collector q) others w.each
 
   abbrev pub StandsAs : CollectorMachine M → Type 0
-  StandsAs k = CollectorStands kit by l words w.space w.notices q.awaited q.sealed k
+  StandsAs k = CollectorStands kit by l words q.plan w.space w.notices q.awaited q.sealed k
 
   pub stands : StandsAs q.machine
   stands = subst StandsAs (sym own.machine) (record {
@@ -142,34 +129,57 @@ module _ {R W E M : Type 0} (kit : Kit R W E M) (by : Stepping R W E M) (laws : 
     resting = w.resting;
     cycles = own.cycles;
     few = own.few;
+    planned = own.plan;
     collects = own.collects;
-    job = own.job;
+    jobs = own.jobs;
     search = own.search;
     awaited = own.awaited;
     sealed_are = own.sealed;
-    only = own.only;
   })
 
   -- its step is on a word that is there
   pub collector_inside : IsInside (words_of l) (collector_asks kit by q.machine)
-  collector_inside = inside_of kit by laws l words w.space w.notices q.awaited q.sealed q.machine stands
+  collector_inside = inside_of kit by laws l words q.plan w.space w.notices q.awaited q.sealed q.machine stands
 
-  -- it plays so many cycles
-  pub collector_plays : (cycles : ℕ) × IsCollector l kit.kind cycles q.machine
-  collector_plays = (stands.cycles, stands.collects)
-
-  pub collector_alone : (job : MoveJob) → seals_of q.machine (collector_asks kit by q.machine) (found_in kit by l words q.machine) ≡ Some job → q.sealed ≡ []
-  collector_alone job e = alone_of kit by laws l words w.space w.notices q.awaited q.sealed q.machine stands job e
+  -- it plays so many cycles, and what it has planned is a plan
+  pub collector_plays : (cycles : ℕ) × IsCollector l kit.kind cycles q.plan q.machine × IsPlan kit.kind l q.plan
+  collector_plays = (stands.cycles, stands.collects, stands.planned)
 
   module _ (on : collector_asks kit by q.machine ≢ Ended) where
-    goes : CollectorGoes kit by l words w.space w.notices q.sealed q.machine
-    goes = goes_of kit by laws l words w.space w.notices q.awaited q.sealed q.machine stands on
+    goes : CollectorGoes kit by l words q.plan w.space w.notices q.sealed q.machine
+    goes = goes_of kit by laws l words q.plan w.space w.notices q.awaited q.sealed q.machine stands on
 
     abbrev next : CollectorMachine M
-    next = next_of kit by l words q.machine
+    next = next_of kit by l words q.plan q.machine
 
     abbrev after : CollectorKnown M
     after = collector_turned kit by w.space.history q (found_in kit by l words q.machine)
+
+    abbrev found : ℕ
+    found = found_in kit by l words q.machine
+
+    own_counted : HasCounted (unsealed_in w.space q.machine) q.machine (length q.sealed)
+    own_counted = subst (λ (k : CollectorMachine M). HasCounted (unsealed_in w.space k) k (length q.sealed)) (sym own.machine) own.counted
+
+    -- each job has sealed one object at most
+    abbrev More : CollectorMachine M → List Sealed
+    More k = sealed_now kit by k w.space.history found
+
+    abbrev Counted : CollectorMachine M → Type 0
+    Counted k = HasCounted (unsealed_in goes.space (collector_fed kit by q.plan k found)) (collector_fed kit by q.plan k found) (length (q.sealed ++ More k))
+
+    counted_then : (k : CollectorMachine M) → IsCollector l kit.kind stands.cycles q.plan k → HasCounted (unsealed_in w.space k) k (length q.sealed) → KeepsSeal k w.space goes.space (length (More k)) → Counted k
+    counted_then (collector.Move st job next m) collects counts keeps =
+        subst (HasCounted (unsealed_in goes.space (collector_fed kit by q.plan (collector.Move st job next m) found)) (collector_fed kit by q.plan (collector.Move st job next m) found))
+        (sym (length-append q.sealed (More (collector.Move st job next m))))
+        (counts_moved kit q.plan w.space goes.space (length q.sealed) (length (More (collector.Move st job next m))) st job next m (by.move_fed m found) (kit.move_ended (by.move_fed m found)) collects.0.next_is counts keeps)
+    counted_then k collects counts keeps =
+        subst (λ (xs : List Sealed). HasCounted (unsealed_in goes.space (collector_fed kit by q.plan k found)) (collector_fed kit by q.plan k found) (length xs)) (sym (append-nil q.sealed))
+        (counts_fed kit q.plan (unsealed_in goes.space (collector_fed kit by q.plan k found)) (most_unsealed goes.space goes.space (collector_fed kit by q.plan k found)) (length q.sealed) by.move_fed l kit.kind stands.cycles (unsealed_in w.space k) k found (λ moves. moves) collects counts)
+
+    fit_then : (k : CollectorMachine M) → IsCollector l kit.kind stands.cycles q.plan k → HasCounted (unsealed_in w.space k) k (length q.sealed) → length q.sealed ≤ (let plan = q.plan in length plan.jobs) → KeepsSeal k w.space goes.space (length (More k)) → length (q.sealed ++ More k) ≤ (let plan = q.plan in length plan.jobs)
+    fit_then (collector.Move st job next m) collects counts fit keeps = omega (arith, length-append q.sealed (More (collector.Move st job next m)), collects.2, counts, keeps)
+    fit_then k collects counts fit keeps = subst (λ (xs : List Sealed). length xs ≤ (let plan = q.plan in length plan.jobs)) (sym (append-nil q.sealed)) fit
 
     party_goes : (r : Party R W E M) → IsPassParty r → IsParty kit l w.collector w.space w.notices r → IsParty kit l next goes.space goes.notices r
     party_goes (party.Pass p) pass is = goes.passes p (subst (λ (k : CollectorMachine M). IsParty kit l k w.space w.notices (party.Pass p)) (sym own.machine) is)
@@ -195,12 +205,14 @@ module _ {R W E M : Type 0} (kit : Kit R W E M) (by : Stepping R W E M) (laws : 
         machine = refl;
         cycles = stands.cycles;
         few = stands.few;
-        collects = plays_fed kit by.move_fed l kit.kind stands.cycles q.machine (found_in kit by l words q.machine) w.layout stands.collects;
-        job = goes.job;
+        plan = stands.planned;
+        collects = plays_fed kit by.move_fed q.plan l kit.kind stands.cycles q.machine (found_in kit by l words q.machine) w.layout stands.collects;
+        jobs = goes.jobs;
         search = goes.search;
         awaited = subst (λ (h : List Call). AreEarlier (length h) after.awaited) (sym goes.history) (earlier_after q.machine next (length w.space.history) q.awaited stands.awaited);
         sealed = goes.sealed_are;
-        only = goes.only;
+        counted = counted_then q.machine stands.collects own_counted goes.seals;
+        fit = fit_then q.machine stands.collects own_counted own.fit goes.seals;
       };
       each = each;
     }

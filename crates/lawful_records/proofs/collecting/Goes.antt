@@ -1,11 +1,11 @@
 -- Where the collector stands before its step, and what the step comes to.
 use Rattle.std.specs.Prelude.{slice_index}
-use Rattle.std.specs.List.{All}
 use Rattle.std.proofs.Common.{◌≡◌, ℕ, ◌≤◌, ◌⊎◌, inl, List, ◌++◌, length, refl, arith}
 use Rattle.call_steps.specs.Steps.{place_of, applied}
 use Rattle.call_steps.specs.StepLaws.{reading}
-use Rattle.heap_words.specs.Layouts.{Sizes, IsLayout, words_of, first_word}
+use Rattle.heap_words.specs.Layouts.{Sizes, IsLayout, words_of}
 use Rattle.object_headers.specs.Changes.{AllowedChange}
+use Rattle.space_reclaim.specs.Plans.{Planned}
 use Rattle.barriers.specs.Spaces.{Space}
 use Rattle.barriers.specs.Says.{Notices, Says, header_in}
 use Rattle.barriers.specs.Rows.{Rows}
@@ -14,7 +14,6 @@ use Rattle.barriers.specs.MoveWords.{IsSpare}
 use Rattle.barriers.specs.Objects.{AreObjects, HasLens}
 use Rattle.barriers.specs.Cycles.{Cycle, IsMoving}
 use Rattle.barriers.specs.Kits.{Kit, Stepping}
-use Rattle.lawful_records.specs.declared.job.TheConstants.{EMPTIED}
 use Rattle.lawful_records.specs.declared.awaited.Awaited.{Awaited}
 use Rattle.lawful_records.specs.declared.collector.CollectorMachine.{CollectorMachine}
 use Rattle.lawful_records.specs.declared.records.PassKnown.{PassKnown}
@@ -23,19 +22,22 @@ use Rattle.lawful_records.specs.Collectors.{drawn_of, AreEarlier}
 use Rattle.lawful_records.specs.Cycling.{announced_by, cycle_of}
 use Rattle.lawful_records.specs.Frames.{SeenBy, SameRegion, Beside}
 use Rattle.lawful_records.specs.Handshakes.{IsCollector}
-use Rattle.lawful_records.specs.JobStands.{stand_of, IsMovedBy, StandsAt}
+use Rattle.lawful_records.specs.Counts.{KeepsSeal}
+use Rattle.lawful_records.specs.JobStands.{IsPlan, stand_of, IsMovedBy, StandsAt}
 use Rattle.lawful_records.specs.Searches.{SearchStands}
 use Rattle.lawful_records.specs.LawfulRecords.{AreSealed, IsPassRecord}
 use Rattle.lawful_records.specs.Turns.{collector_asks, collector_fed, sealed_now}
 use Rattle.lawful_records.proofs.frames.PassStays.{pass_stays}
 
 module _ {R W E M : Type 0} (kit : Kit R W E M) (by : Stepping R W E M) (l : Sizes) (words : List ℕ) where
-  -- the word that its step finds, and its machine then
+  -- the word that its step finds
   abbrev pub found_in : CollectorMachine M → ℕ
   found_in k = slice_index words (place_of (collector_asks kit by k))
 
+module _ {R W E M : Type 0} (kit : Kit R W E M) (by : Stepping R W E M) (l : Sizes) (words : List ℕ) (plan : Planned) where
+  -- its machine then
   abbrev pub next_of : CollectorMachine M → CollectorMachine M
-  next_of k = collector_fed kit by k (found_in k)
+  next_of k = collector_fed kit by plan k (found_in kit by l words k)
 
   -- before its step, with these counts of its awaits, and so much sealed
   pub record CollectorStands (s : Space) (n : Notices) (counts : Awaited) (sealed : List Sealed) (k : CollectorMachine M) : Type 0 where
@@ -52,12 +54,12 @@ module _ {R W E M : Type 0} (kit : Kit R W E M) (by : Stepping R W E M) (l : Siz
     pub resting : (a : ℕ) → IsMoving (s.state a) → IsMovedBy k a
     pub cycles : ℕ
     pub few : cycles ≤ 64
-    pub collects : IsCollector l kit.kind cycles k
-    pub job : StandsAt kit l (cycle_of k) s (stand_of k)
+    pub planned : IsPlan kit.kind l plan
+    pub collects : IsCollector l kit.kind cycles plan k
+    pub jobs : StandsAt kit l (cycle_of k) s (stand_of plan k)
     pub search : SearchStands l (cycle_of k) s k
     pub awaited : AreEarlier (length s.history) counts
     pub sealed_are : AreSealed s sealed
-    pub only : All (λ (one : Sealed). one.at ≡ first_word l EMPTIED) sealed
 
   -- the step makes this of the space and the notices
   pub record CollectorGoes (s : Space) (n : Notices) (sealed : List Sealed) (k : CollectorMachine M) : Type 0 where
@@ -74,12 +76,13 @@ module _ {R W E M : Type 0} (kit : Kit R W E M) (by : Stepping R W E M) (l : Siz
     pub resting : (a : ℕ) → IsMoving (space.state a) → IsMovedBy (next_of k) a
     pub history : space.history ≡ s.history
     pub passes : (p : PassKnown R W E) → IsPassRecord kit l (announced_by k) (cycle_of k) s n p → IsPassRecord kit l (announced_by (next_of k)) (cycle_of (next_of k)) space notices p
-    pub job : StandsAt kit l (cycle_of (next_of k)) space (stand_of (next_of k))
+    pub jobs : StandsAt kit l (cycle_of (next_of k)) space (stand_of plan (next_of k))
     pub search : SearchStands l (cycle_of (next_of k)) space (next_of k)
-    pub sealed_are : AreSealed space (sealed ++ sealed_now kit by k s.history (found_in k))
-    pub only : All (λ (one : Sealed). one.at ≡ first_word l EMPTIED) (sealed ++ sealed_now kit by k s.history (found_in k))
+    pub sealed_are : AreSealed space (sealed ++ sealed_now kit by k s.history (found_in kit by l words k))
+    pub seals : KeepsSeal k s space (length (sealed_now kit by k s.history (found_in kit by l words k)))
     pub heads : (a : ℕ) → (header_in space a ≡ header_in s a) ⊎ AllowedChange kit.kind (header_in s a) (header_in space a)
 
+module _ {R W E M : Type 0} (kit : Kit R W E M) (by : Stepping R W E M) (l : Sizes) (words : List ℕ) where
   -- ---- passes, where nothing is announced
 
   -- what changes is in regions of the pool

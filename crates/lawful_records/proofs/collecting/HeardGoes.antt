@@ -1,19 +1,18 @@
 -- What a turn of the collector that changes no object comes to.
-use Rattle.std.specs.List.{All}
-use Rattle.std.proofs.Common.{inl, inr, arith, ◌≡◌, ◌≢◌, ℕ, ◌<◌, ◌≤◌, List, ◌++◌, refl, sym, ap, ◌∙◌, subst}
+use Rattle.std.proofs.Common.{inl, inr, arith, ◌≡◌, ◌≢◌, ℕ, ◌<◌, ◌≤◌, List, ◌++◌, refl, sym, ap, ◌∙◌, subst, length}
 use Rattle.call_steps.specs.Steps.{applied}
 use Rattle.call_steps.specs.StepLaws.{reading}
-use Rattle.heap_words.specs.Layouts.{Sizes, first_word}
+use Rattle.heap_words.specs.Layouts.{Sizes}
 use Rattle.handshakes.specs.Handshakes.{Answers, AnswersWith, Advances}
 use Rattle.handshakes.specs.PhaseWords.{retired_word}
 use Rattle.barriers.specs.MoveWords.{IsSpare}
+use Rattle.space_reclaim.specs.Plans.{Planned}
 use Rattle.barriers.specs.Spaces.{Space}
 use Rattle.barriers.specs.Says.{Notices, Says}
 use Rattle.barriers.specs.Objects.{AreObjects}
 use Rattle.barriers.specs.Cycles.{Side, Handshaken}
 use Rattle.barriers.specs.Stances.{Retired, stance_at}
 use Rattle.barriers.specs.Kits.{Kit, Stepping, Laws}
-use Rattle.lawful_records.specs.declared.job.TheConstants.{EMPTIED}
 use Rattle.lawful_records.specs.declared.awaited.Awaited.{Awaited}
 use Rattle.lawful_records.specs.declared.collector.CollectorMachine.{CollectorMachine}
 use Rattle.lawful_records.specs.declared.records.PassKnown.{PassKnown}
@@ -31,42 +30,43 @@ use Rattle.lawful_records.proofs.frames.Hearing.{Hears, pass_hears}
 use Rattle.lawful_records.proofs.turns.RetireTurns.{stance_retired}
 use Rattle.lawful_records.proofs.collecting.Announcing.{announced_is}
 use Rattle.lawful_records.proofs.collecting.Answering.{answers_on, marked_on, waits_on}
+use Rattle.lawful_records.proofs.collecting.Counted.{keeps_idle}
 use Rattle.lawful_records.proofs.collecting.Goes.{found_in, next_of, CollectorStands, CollectorGoes}
 use Rattle.lawful_records.proofs.collecting.Phasing.{PassGoes, Fits}
 use Rattle.lawful_records.proofs.collecting.Playing.{plays_fed}
 use Rattle.lawful_records.proofs.collecting.Shaken.{answered_all}
 
-module _ {R W E M : Type 0} (kit : Kit R W E M) (by : Stepping R W E M) (laws : Laws kit by) (l : Sizes) (words : List ℕ) (s : Space) (n : Notices) (counts : Awaited) (sealed : List Sealed) where
+module _ {R W E M : Type 0} (kit : Kit R W E M) (by : Stepping R W E M) (laws : Laws kit by) (l : Sizes) (words : List ℕ) (plan : Planned) (s : Space) (n : Notices) (counts : Awaited) (sealed : List Sealed) where
   -- after its step the words say these notices; the passes' are the same; and what it is to the objects and to passes
   pub record HasHeard (k : CollectorMachine M) : Type 0 where
     pub notices : Notices
     pub says : Says l (reading (applied (collector_asks kit by k) words)) s notices
     pub spare : IsSpare l (reading (applied (collector_asks kit by k) words)) s
-    pub phase : notices.phase ≡ (let a = announced_by (next_of kit by l words k) in a.word)
-    pub drawn : notices.mark ≡ drawn_of (next_of kit by l words k)
+    pub phase : notices.phase ≡ (let a = announced_by (next_of kit by l words plan k) in a.word)
+    pub drawn : notices.mark ≡ drawn_of (next_of kit by l words plan k)
     pub acks : (pass : ℕ) → notices.ack pass ≡ n.ack pass
     pub roots : (pass reg : ℕ) → notices.root pass reg ≡ n.root pass reg
-    pub advances : Advances l n.ack (announced_by k) (announced_by (next_of kit by l words k))
+    pub advances : Advances l n.ack (announced_by k) (announced_by (next_of kit by l words plan k))
     -- before all have answered nothing is drawn, and the announced word is another than the one before
     pub marks : passed_of k < l.passes → notices.mark ≡ n.mark
     pub differ : passed_of k < l.passes → (let a = announced_by k in (a.before ≢ a.word) × (a.before ≢ retired_word))
-    pub objects : AreObjects kit.protocol (cycle_of (next_of kit by l words k)) s
-    pub goes : (side : Side) → (side.acked ≢ Retired → l.passes ≤ passed_of k → side.acked ≡ stance_at (announced_of k)) → Fits kit laws.table laws.cycle s (cycle_of k) side → Fits kit laws.table laws.cycle s (cycle_of (next_of kit by l words k)) side
-        → PassGoes kit laws.table laws.cycle s (cycle_of k) (cycle_of (next_of kit by l words k)) side
+    pub objects : AreObjects kit.protocol (cycle_of (next_of kit by l words plan k)) s
+    pub goes : (side : Side) → (side.acked ≢ Retired → l.passes ≤ passed_of k → side.acked ≡ stance_at (announced_of k)) → Fits kit laws.table laws.cycle s (cycle_of k) side → Fits kit laws.table laws.cycle s (cycle_of (next_of kit by l words plan k)) side
+        → PassGoes kit laws.table laws.cycle s (cycle_of k) (cycle_of (next_of kit by l words plan k)) side
     pub still : (a : ℕ) → IsMovedBy k a → ⊥
-    pub stands_then : StandsAt kit l (cycle_of (next_of kit by l words k)) s (stand_of (next_of kit by l words k))
-    pub search_then : SearchStands l (cycle_of (next_of kit by l words k)) s (next_of kit by l words k)
+    pub stands_then : StandsAt kit l (cycle_of (next_of kit by l words plan k)) s (stand_of plan (next_of kit by l words plan k))
+    pub search_then : SearchStands l (cycle_of (next_of kit by l words plan k)) s (next_of kit by l words plan k)
     pub none_sealed : sealed ++ sealed_now kit by k s.history (found_in kit by l words k) ≡ sealed
 
-  module _ (k : CollectorMachine M) (stands : CollectorStands kit by l words s n counts sealed k) (has : HasHeard k) where
+  module _ (k : CollectorMachine M) (stands : CollectorStands kit by l words plan s n counts sealed k) (has : HasHeard k) where
     abbrev next : CollectorMachine M
-    next = next_of kit by l words k
+    next = next_of kit by l words plan k
 
-    goes_on : IsCollector l kit.kind stands.cycles next
-    goes_on = plays_fed kit by.move_fed l kit.kind stands.cycles k (found_in kit by l words k) stands.layout stands.collects
+    goes_on : IsCollector l kit.kind stands.cycles plan next
+    goes_on = plays_fed kit by.move_fed plan l kit.kind stands.cycles k (found_in kit by l words k) stands.layout stands.collects
 
     told_then : IsAnnounced kit.minds l (announced_by next) (cycle_of next) (drawn_of next)
-    told_then = announced_is kit.minds l kit.kind stands.cycles stands.few laws.minds next goes_on
+    told_then = announced_is kit.minds l kit.kind stands.cycles stands.few laws.minds plan next goes_on
 
     module _ (p : PassKnown R W E) (own : IsPassRecord kit l (announced_by k) (cycle_of k) s n p) where
       abbrev side : Side
@@ -121,7 +121,7 @@ module _ {R W E M : Type 0} (kit : Kit R W E M) (by : Stepping R W E M) (laws : 
       heard_pass : IsPassRecord kit l (announced_by next) (cycle_of next) s has.notices p
       heard_pass = pass_hears kit l (announced_by k) (announced_by next) (cycle_of k) (cycle_of next) s n has.notices p hears own
 
-    pub hearing_goes : CollectorGoes kit by l words s n sealed k
+    pub hearing_goes : CollectorGoes kit by l words plan s n sealed k
     hearing_goes = record {
       space = s;
       notices = has.notices;
@@ -136,9 +136,9 @@ module _ {R W E M : Type 0} (kit : Kit R W E M) (by : Stepping R W E M) (laws : 
       resting = λ a moving. absurd (has.still a (stands.resting a moving));
       history = refl;
       passes = λ p own. heard_pass p own;
-      job = has.stands_then;
+      jobs = has.stands_then;
       search = has.search_then;
       sealed_are = subst (AreSealed s) (sym has.none_sealed) stands.sealed_are;
-      only = subst (All (λ (one : Sealed). one.at ≡ first_word l EMPTIED)) (sym has.none_sealed) stands.only;
+      seals = keeps_idle s s k (length (sealed_now kit by k s.history (found_in kit by l words k))) has.still;
       heads = λ a. inl refl;
     }

@@ -12,6 +12,7 @@ use Rattle.handshakes.specs.declared.answer.AwaitMachine.{AwaitMachine}
 use Rattle.handshakes.specs.declared.answer.AwaitMachine.TheVariants as await
 use Rattle.handshakes.specs.Awaits as awaits
 use Rattle.handshakes.specs.Handshakes.{Announced, Advances, Announces}
+use Rattle.space_reclaim.specs.Plans.{Planned}
 use Rattle.barriers.specs.Spaces.{Space}
 use Rattle.barriers.specs.Says.{Notices}
 use Rattle.barriers.specs.Objects.{AreObjects}
@@ -28,7 +29,7 @@ use Rattle.lawful_records.specs.declared.stage.Stage.{Stage}
 use Rattle.lawful_records.specs.declared.collector.CollectorMachine.{CollectorMachine}
 use Rattle.lawful_records.specs.declared.collector.CollectorMachine.TheVariants as collector
 use Rattle.lawful_records.specs.declared.records.Sealed.{Sealed}
-use Rattle.lawful_records.specs.Collectors.{look, drawn_of, word_of, round_of, mark_word, mark_at, is_refused, stage_before, planned, behind_by}
+use Rattle.lawful_records.specs.Collectors.{look, drawn_of, word_of, round_of, mark_word, mark_at, is_refused, stage_before, jobs_of, behind_by}
 use Rattle.lawful_records.specs.Cycling.{announced_by, clear_by, cycle_of, told_by, told_until, told_awaiting, clear_until, clear_awaiting}
 use Rattle.lawful_records.specs.Handshakes.{IsStage}
 use Rattle.lawful_records.specs.JobStands.{stand_of, StandsAt}
@@ -40,7 +41,7 @@ use Rattle.lawful_records.proofs.collecting.Advancing.{looked_says, looked_leave
 use Rattle.lawful_records.proofs.collecting.Fitting.{clear_late}
 use Rattle.lawful_records.proofs.collecting.Goes.{found_in, next_of, CollectorStands, CollectorGoes}
 use Rattle.lawful_records.proofs.collecting.HeardGoes.{HasHeard, hearing_goes}
-use Rattle.lawful_records.proofs.collecting.JobBegins.{stand_on, stand_behind}
+use Rattle.lawful_records.proofs.collecting.JobBegins.{stand_on, forward_to, stand_behind}
 use Rattle.lawful_records.proofs.collecting.Phasing.{PassGoes, Fits, reach_objects, reach_goes, announce_objects, announce_goes}
 use Rattle.lawful_records.proofs.collecting.Playing.{look_tells, await_is}
 use Rattle.lawful_records.proofs.collecting.SearchBegins.{search_behind}
@@ -61,12 +62,12 @@ free_ends Copy clear is = cc is
 free_ends Fix clear is = cc is
 free_ends Free clear is = refl
 
-module _ {R W E M : Type 0} (kit : Kit R W E M) (by : Stepping R W E M) (laws : Laws kit by) (l : Sizes) (words : List ℕ) (s : Space) (n : Notices) (counts : Awaited) (sealed : List Sealed) where
+module _ {R W E M : Type 0} (kit : Kit R W E M) (by : Stepping R W E M) (laws : Laws kit by) (l : Sizes) (words : List ℕ) (plan : Planned) (s : Space) (n : Notices) (counts : Awaited) (sealed : List Sealed) where
   abbrev Stands : CollectorMachine M → Type 0
-  Stands k = CollectorStands kit by l words s n counts sealed k
+  Stands k = CollectorStands kit by l words plan s n counts sealed k
 
   abbrev Heard : CollectorMachine M → Type 0
-  Heard k = HasHeard kit by laws l words s n counts sealed k
+  Heard k = HasHeard kit by laws l words plan s n counts sealed k
 
   module _ (k : CollectorMachine M) (stands : Stands k) where
     puts : (step : Step) → step ≢ Ended → IsInside (words_of l) step → Put (reading words) (reading (applied step words)) (place_of step) (put_by step (reading words (place_of step)))
@@ -88,7 +89,7 @@ module _ {R W E M : Type 0} (kit : Kit R W E M) (by : Stepping R W E M) (laws : 
     found_ack = stands.says.notices.ack pass there
 
     abbrev next : CollectorMachine M
-    next = next_of kit by l words looking
+    next = next_of kit by l words plan looking
 
     abbrev its : AwaitMachine
     its = await.Acknowledgement (ack_at pass) pass (word_of st)
@@ -98,27 +99,27 @@ module _ {R W E M : Type 0} (kit : Kit R W E M) (by : Stepping R W E M) (laws : 
 
     -- the job, and a search that begins
     abbrev Next : CollectorMachine M → Type 0
-    Next k = StandsAt kit l (cycle_of k) s (stand_of k) × SearchStands l (cycle_of k) s k
+    Next k = StandsAt kit l (cycle_of k) s (stand_of plan k) × SearchStands l (cycle_of k) s k
 
-    stand_awaited : (more : Bool) → Next (if more then look st (pass + 1) else behind_by kit st.announcement st)
-    stand_awaited true = (stand_on kit by laws l stands.layout s stands.rows (cycle_of looking) (cycle_of {M = M} (look st (pass + 1))) (is_clover st.kind) st.announcement (planned st) stands.job, tt)
+    stand_awaited : (more : Bool) → Next (if more then look st (pass + 1) else behind_by kit plan st.announcement st)
+    stand_awaited true = (stand_on kit l s (cycle_of looking) (cycle_of {M = M} (look st (pass + 1))) (is_clover st.kind) st.announcement (jobs_of plan st) stands.jobs, tt)
     stand_awaited false = (
-      stand_behind kit by laws l stands.layout s stands.rows (cycle_of looking) stands.cycles st stage st.announcement refl stands.job,
-      search_behind kit l s stands.rows st stands.layout stage.layout st.announcement,
+      stand_behind kit by laws l stands.layout plan stands.planned s stands.rows (forward_to kit.protocol (cycle_of looking) s stands.objects) (cycle_of looking) stands.cycles st stage st.announcement refl stands.jobs,
+      search_behind kit plan l s stands.rows st stands.layout stage.layout st.announcement,
     )
 
     stand_looked : Next next
-    stand_looked = elim (look_tells kit by.move_fed st pass (found_in kit by l words looking)) [
+    stand_looked = elim (look_tells kit plan by.move_fed st pass (found_in kit by l words looking)) [
       | inl on ↦ subst Next (sym on.1) (stand_awaited (nat_lt pass st.layout.passes))
-      | inr again ↦ subst Next (sym again) (stands.job, tt)
+      | inr again ↦ subst Next (sym again) (stands.jobs, tt)
     ]
 
     -- the cycle is the same, but who has acknowledged the last Copy word
     leaves : (drawn_of next ≡ mark_word st) × (clear_by next ≡ clear_awaiting st.announcement st.marks.clear)
-    leaves = looked_leaves kit l kit.kind stands.cycles stands.few st stage pass its end
+    leaves = looked_leaves kit plan l kit.kind stands.cycles stands.few st stage pass its end
 
     same_word : (let a = announced_by next in a.word) ≡ word_of st
-    same_word = ap (λ (a : Announced). a.word) (looked_says kit l kit.kind stands.cycles st stage pass its end 0)
+    same_word = ap (λ (a : Announced). a.word) (looked_says kit plan l kit.kind stands.cycles st stage pass its end 0)
 
     same_cycle : record (cycle_of looking) { told = told_by next } ≡ cycle_of next
     same_cycle = rw (same_word, leaves.0, leaves.1) refl
@@ -147,7 +148,7 @@ module _ {R W E M : Type 0} (kit : Kit R W E M) (by : Stepping R W E M) (laws : 
       drawn = stands.drawn ∙ sym leaves.0;
       acks = λ p. refl;
       roots = λ p reg. refl;
-      advances = subst (λ (found : ℕ). Advances l n.ack (announced_by looking) (announced_by (collector_fed kit by looking found))) (sym found_ack) (advances_look kit l kit.kind stands.cycles st stage by.move_fed pass n.ack there);
+      advances = subst (λ (found : ℕ). Advances l n.ack (announced_by looking) (announced_by (collector_fed kit by plan looking found))) (sym found_ack) (advances_look kit plan l kit.kind stands.cycles st stage by.move_fed pass n.ack there);
       marks = λ waits. refl;
       differ = λ waits. (differs st (stage_said l kit.kind stands.cycles stands.few st stage) (before_said l kit.kind stands.cycles stands.few st stage), (let b = stage_before st in runs b.announcement b.cycle (round_of b)));
       objects = subst (λ (c : Cycle). AreObjects kit.protocol c s) same_cycle reached_objects;
@@ -203,7 +204,7 @@ module _ {R W E M : Type 0} (kit : Kit R W E M) (by : Stepping R W E M) (laws : 
           (λ on free. free_leaves side (at on (omega (arith, passes))) was on free)
           (clear_until st) (clear_awaiting st.announcement st.marks.clear) ends stands.objects was is;
       still = λ a moved. moved;
-      stands_then = stand_on kit by laws l stands.layout s stands.rows (cycle_of {M = M} saying) (cycle_of {M = M} (look st 1)) (is_clover st.kind) st.announcement (planned st) stands.job;
+      stands_then = stand_on kit l s (cycle_of {M = M} saying) (cycle_of {M = M} (look st 1)) (is_clover st.kind) st.announcement (jobs_of plan st) stands.jobs;
       search_then = tt;
       none_sealed = append-nil sealed;
     }
@@ -215,5 +216,5 @@ module _ {R W E M : Type 0} (kit : Kit R W E M) (by : Stepping R W E M) (laws : 
       subst Heard (sym same) (heard_look st pass (subst Stands same stands))
   heard k is stands = absurd is
 
-  pub heard_goes : (k : CollectorMachine M) → IsHeard k → Stands k → CollectorGoes kit by l words s n sealed k
-  heard_goes k is stands = hearing_goes kit by laws l words s n counts sealed k stands (heard k is stands)
+  pub heard_goes : (k : CollectorMachine M) → IsHeard k → Stands k → CollectorGoes kit by l words plan s n sealed k
+  heard_goes k is stands = hearing_goes kit by laws l words plan s n counts sealed k stands (heard k is stands)

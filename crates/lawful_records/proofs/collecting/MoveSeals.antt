@@ -3,7 +3,7 @@ use Rattle.std.specs.Prelude.{◌<◌, nat_lt, if◌then◌else◌}
 use Rattle.std.specs.List.{All}
 use Rattle.std.proofs.Common.{inl, inr, ◌≡◌, ◌≢◌, ℕ, ◌+◌, Bool, true, false, List, [], ◌∷◌, ◌++◌, Some, None, refl, sym, ap, ◌∙◌, subst, arith}
 use Rattle.std.proofs.lemmas.Bool.{cases_eq, lt-ltb}
-use Rattle.std.proofs.lemmas.List.Elements.{All-weaker, All-head, All-append, All-cons, All-nil}
+use Rattle.std.proofs.lemmas.List.Elements.{All-weaker, All-append, All-cons, All-nil}
 use Rattle.heap_words.specs.Layouts.{Sizes}
 use Rattle.heap_history.specs.declared.call.Call.{Call}
 use Rattle.barriers.specs.Rows.{Rows}
@@ -90,17 +90,3 @@ module _ (l : Sizes) (s t : Space) (from to : ℕ) (rows : Rows l t.state t.len 
         | inr other ↦ other_last sealed one (a + 1 + f) (other_word l t rows one a f one_there (live_there (t.state a) live) (λ same. other (sym same)) inside) ∙ seal_else a f other live inside
       ];
     }
-
-    -- nothing else was sealed, where all that ever is stands at this address
-    pub none_before : len ≢ 0 → All (λ (x : Sealed). x.at ≡ from) sealed → sealed ≡ []
-    none_before some only = by_list sealed are only where
-      by_list : (xs : List Sealed) → AreSealed s xs → All (λ (x : Sealed). x.at ≡ from) xs → xs ≡ []
-      by_list [] are only = refl
-      by_list (x ∷ xs) are only =
-          let here : x.at ≡ from = All-head (λ (x : Sealed). x.at ≡ from) x xs only in
-          let is = All-head (IsThereSealed s) x xs are.there in
-          let long : x.len ≡ len = sym is.len ∙ (ap s.len here ∙ size) in
-          let its : has_word x (from + 1 + 0) ≡ true = subst (λ a. has_word x (a + 1 + 0) ≡ true) here (own_word x 0 (omega (arith, long, some))) in
-          let found : seal_in (x ∷ xs) (from + 1 + 0) ≡ Some x.changes = rw its refl in
-          let none : seal_in (x ∷ xs) (from + 1 + 0) ≡ None = are.seals from 0 home (omega (arith, size, some)) ∙ unsealed in
-          absurd (let gone : Some x.changes ≡ None = sym found ∙ none in cc gone)

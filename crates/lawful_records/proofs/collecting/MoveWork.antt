@@ -14,13 +14,14 @@ use Rattle.heap_words.specs.FieldWords.{IsFieldWord}
 use Rattle.barriers.specs.Stances.{mark_in}
 use Rattle.wide_objects.specs.Statuses.{InOriginal}
 use Rattle.space_reclaim.specs.declared.move_job.MoveJob.{MoveJob}
+use Rattle.space_reclaim.specs.Plans.{Planned}
 use Rattle.space_reclaim.specs.declared.region_word.RegionWord.TheVariants as regions
 use Rattle.heap_history.specs.declared.call.Call.{Call}
 use Rattle.barriers.specs.declared.ends.MoveEnd.{MoveEnd}
 use Rattle.barriers.specs.Sets.{set}
 use Rattle.barriers.specs.Spaces.{Space, here, copy_word}
 use Rattle.barriers.specs.Accesses.{put_state}
-use Rattle.barriers.specs.States.{State, Absent, Plain, Kept, Underway, Dead, Moving, Wide, Tagged, Forward}
+use Rattle.barriers.specs.States.{State, Absent, Plain, Kept, Underway, Dead, Moving, Wide, Tagged, Forward, IsLive}
 use Rattle.barriers.specs.Says.{Notices, Says}
 use Rattle.barriers.specs.Rows.{Rows}
 use Rattle.barriers.specs.Cycles.{Cycle, IsMoving}
@@ -30,7 +31,7 @@ use Rattle.barriers.specs.Moves.{Carried, Idles, Looks, field_of, Lays, Gives_up
 use Rattle.barriers.specs.MoveSteps.{forward, seal_wide, forward_by, field_by, space_moved, move_said, end_by}
 use Rattle.barriers.specs.MoveTurns.{MovesTo, mover_after}
 use Rattle.barriers.specs.MoveWords.{CanLay, IsMoverAt, StandsRight, IsSpare, IsNarrow}
-use Rattle.barriers.specs.Objects.{IsMove}
+use Rattle.barriers.specs.Objects.{CopyAt, IsMove}
 use Rattle.barriers.specs.Kits.{Kit, Stepping, Laws}
 use Rattle.barriers.proofs.objects.MoveTurns.{move_step, moved_region, moved_ends}
 use Rattle.barriers.proofs.words.Headers.{home_live, home_there, live_there}
@@ -48,8 +49,8 @@ use Rattle.lawful_records.specs.Collectors.{mark_word}
 use Rattle.lawful_records.specs.Cycling.{cycle_of}
 use Rattle.lawful_records.proofs.collecting.Announcing.{last_fits}
 use Rattle.lawful_records.specs.Frames.{SameRegion}
-use Rattle.lawful_records.specs.JobStands.{IsMover}
-use Rattle.lawful_records.proofs.collecting.FirstJobs.{IsFirstJob, planned_is, has_wide}
+use Rattle.lawful_records.specs.JobStands.{IsPlannedJob, IsMover}
+use Rattle.lawful_records.proofs.collecting.PlanLists.{all_in}
 use Rattle.lawful_records.proofs.collecting.Goes.{CollectorStands}
 
 -- ---- what a step puts in a header
@@ -125,10 +126,10 @@ mark_fits mark fits w is = by (mark == 0) is
 
 -- ---- the step
 
-module _ {R W E M : Type 0} (kit : Kit R W E M) (by : Stepping R W E M) (laws : Laws kit by) (l : Sizes) (words : List ℕ) (s : Space) (n : Notices) (counts : Awaited) (sealed : List Sealed) (st : Stage) (job : MoveJob) (m : M)
-    (stands : CollectorStands kit by l words s n counts sealed (collector.Move st job m)) where
+module _ {R W E M : Type 0} (kit : Kit R W E M) (by : Stepping R W E M) (laws : Laws kit by) (l : Sizes) (words : List ℕ) (plan : Planned) (s : Space) (n : Notices) (counts : Awaited) (sealed : List Sealed) (st : Stage) (job : MoveJob) (next : ℕ) (m : M)
+    (stands : CollectorStands kit by l words plan s n counts sealed (collector.Move st job next m)) where
   abbrev pub k : CollectorMachine M
-  k = collector.Move st job m
+  k = collector.Move st job next m
 
   abbrev pub c : Cycle
   c = cycle_of k
@@ -137,10 +138,10 @@ module _ {R W E M : Type 0} (kit : Kit R W E M) (by : Stepping R W E M) (laws : 
   C = kit.moves m
 
   pub is : IsMover kit l c s job m
-  is = stands.job
+  is = stands.jobs.mover
 
-  pub first : IsFirstJob kit.kind l st.cycle job
-  first = planned_is l kit.kind stands.cycles st job stands.collects.stage stands.collects.job_is
+  pub its : IsPlannedJob kit.kind job
+  its = all_in (IsPlannedJob kit.kind) plan.jobs job stands.planned.jobs stands.collects.1
 
   -- ---- the words
 
@@ -158,16 +159,16 @@ module _ {R W E M : Type 0} (kit : Kit R W E M) (by : Stepping R W E M) (laws : 
   can_lay i e = let unmoved = (is.lays i e).0 in record {
     region = let low = is.pool in omega (arith, low);
     taken = λ free. (let gone : regions.Target ≡ regions.Free = sym (is.lays i e).1 ∙ free in cc gone);
-    last = unmoved.place;
+    last = (is.lays i e).2;
     room = unmoved.room;
-    wide = λ some. wide_ready l (reading words) s job stands.spare (unmoved.wide some) (unmoved.wideless job.from) (λ a has other. absurd (has (unmoved.wideless a))) unmoved.address (statuses i e);
+    wide = λ some. wide_ready l (reading words) s job stands.spare (unmoved.wide some) unmoved.wideless (λ a has other. inr (unmoved.above some a (λ none. has (stands.bare a none)) has)) unmoved.address (statuses i e);
   }
 
   pub at : StandsRight l kit.kind c.mark (reading words) s C
   at i e =
       let same = same_job i e in
       subst (λ j. IsMoverAt l kit.kind c.mark (reading words) s C j) (sym same)
-      (mover_at kit.protocol kit.kind laws.table.moves laws.movable l (reading words) c s stands.objects (λ w is. mark_fits (mark_word st) (last_fits st.marks.candidates) w is) C job is.job is.move (has_wide kit.kind l st.cycle job first) can_lay)
+      (mover_at kit.protocol kit.kind laws.table.moves laws.movable l (reading words) c s stands.objects (λ w is. mark_fits (mark_word st) (last_fits st.marks.candidates) w is) C job is.job is.move its.wide can_lay)
 
   abbrev pub step : Step
   step = by.move_asks m
@@ -222,7 +223,11 @@ module _ {R W E M : Type 0} (kit : Kit R W E M) (by : Stepping R W E M) (laws : 
   -- ---- wide objects
 
   narrow_by : (y : Carried) → C ≡ y → IsNarrow s y
-  narrow_by (Lays i) e = let unmoved = (is.lays i e).0 in (unmoved.wideless i.from, unmoved.wideless i.to)
+  narrow_by (Lays i) e =
+      let unmoved = (is.lays i e).0 in
+      let same = same_job i (ap job_of e) in
+      let absent : s.state job.to ≡ Absent = subst (λ (y : Carried). CopyAt s y job) e is.move.copy in
+      (ap (λ (j : MoveJob). s.wide j.from) same ∙ unmoved.wideless, ap (λ (j : MoveJob). s.wide j.to) same ∙ stands.bare job.to absent)
   narrow_by y e = tt
 
   pub moved_spare : IsSpare l (reading (applied step words)) t
@@ -232,10 +237,9 @@ module _ {R W E M : Type 0} (kit : Kit R W E M) (by : Stepping R W E M) (laws : 
 
   bare_by : (y : Carried) → C ≡ y → (a : ℕ) → s.state a ≡ Absent → (space_moved l c.mark s y).wide a ≡ 0
   bare_by (Lays i) e a none =
-      let unmoved = (is.lays i e).0 in
       let same = same_job i (ap job_of e) in
       let other : a ≢ i.from = λ here. home_there (s.state job.from) is.move.live (ap s.state (ap (λ (j : MoveJob). j.from) (sym same) ∙ sym here) ∙ none) in
-      set_else (set s.wide i.to 0) i.from a i.wide other ∙ elim (set_cases s.wide i.to a 0) [ inl q ↦ q.1 | inr q ↦ q.1 ∙ unmoved.wideless a ]
+      set_else (set s.wide i.to 0) i.from a i.wide other ∙ elim (set_cases s.wide i.to a 0) [ inl q ↦ q.1 | inr q ↦ q.1 ∙ stands.bare a none ]
   bare_by y e a none = ap (λ (g : ℕ → ℕ). g a) (alike_moved l c.mark s y (λ i q. cc q)).2 ∙ stands.bare a none
 
   pub moved_bare : (a : ℕ) → t.state a ≡ Absent → t.wide a ≡ 0
@@ -250,13 +254,23 @@ module _ {R W E M : Type 0} (kit : Kit R W E M) (by : Stepping R W E M) (laws : 
     ends = moved_ends l c.mark s C job region is.job (λ e. (let low = is.pool in omega (arith, e, own, low)));
   }
 
+  -- no object is where the copy is to be, or the copy is under way
+  pub under : IsLive (s.state job.to) → ⊥
+  under = under_by C refl is.move.copy where
+    under_by : (y : Carried) → C ≡ y → CopyAt s y job → IsLive (s.state job.to) → ⊥
+    under_by (Looks i) e copy live =
+        let P = kit.protocol in
+        laws.movable.looks its.moves c i (here s job.from 0) (subst (λ y. P.MoveHead c y (here s job.from 0)) e is.move.head)
+    under_by (Lays i) e copy live = subst IsLive copy live
+    under_by y e copy live = subst IsLive copy.copy.state live
+
   -- ---- how it goes on
 
   -- a mover that ends has not left the object on its way
   settles : (y : Carried) → C ≡ y → MayEnd y (s.state job.from) → IsMoving ((space_moved l c.mark s y).state job.from) → ⊥
   settles (Looks i) e may moving =
       let P = kit.protocol in
-      laws.movable.looks first.moves c i (here s job.from 0) (subst (λ y. P.MoveHead c y (here s job.from 0)) e is.move.head)
+      laws.movable.looks its.moves c i (here s job.from 0) (subst (λ y. P.MoveHead c y (here s job.from 0)) e is.move.head)
   settles (Gives_up i) e may moving =
       let P = kit.protocol in
       let kept : s.state job.from ≡ Kept = laws.table.moves.gives_up c i (here s job.from 0) (subst (λ y. P.MoveHead c y (here s job.from 0)) e is.move.head) in

@@ -1,8 +1,10 @@
 -- A collector plays its cycles: it stays a collector of these cycles after each step, whatever word that finds.
 use Rattle.std.specs.Prelude.{nat_lt, min, if◌then◌else◌}
-use Rattle.std.proofs.Common.{◌≡◌, ℕ, ◌+◌, ◌-◌, ◌^◌, ◌<◌, ◌≤◌, ◌⊎◌, ◌==◌, Bool, true, false, Option, Some, None, refl, sym, ap, ◌∙◌, subst, arith, inl, inr}
+use Rattle.std.specs.List.{slice_get}
+use Rattle.std.proofs.Common.{◌≡◌, ℕ, ◌+◌, ◌-◌, ◌^◌, ◌<◌, ◌≤◌, ◌⊎◌, ◌==◌, Bool, true, false, length, Option, Some, None, refl, sym, ap, ◌∙◌, subst, arith, inl, inr}
 use Rattle.std.proofs.lemmas.Bool.Decides.{nat_tests}
 use Rattle.std.proofs.lemmas.Bool.{eqb-true}
+use Rattle.std.proofs.lemmas.Option.{slice_get_within}
 use Rattle.heap_words.specs.Layouts.{Sizes, IsLayout, IsPass, ack_at}
 use Rattle.object_headers.specs.declared.change.Kind.{Kind}
 use Rattle.object_headers.specs.Changes.{is_clover}
@@ -15,6 +17,7 @@ use Rattle.mark_search.specs.declared.seek.SeekEnd.TheVariants.{Clear, MarkFound
 use Rattle.mark_search.specs.declared.seek.SeekMarkMachine.{SeekMarkMachine}
 use Rattle.mark_search.specs.Seeks as seeks
 use Rattle.space_reclaim.specs.declared.move_job.MoveJob.{MoveJob}
+use Rattle.space_reclaim.specs.Plans.{Planned}
 use Rattle.barriers.specs.declared.ends.MoveEnd.{MoveEnd}
 use Rattle.barriers.specs.Kits.{Kit}
 use Rattle.lawful_records.specs.declared.stage.Announcement.{Announcement}
@@ -24,24 +27,24 @@ use Rattle.lawful_records.specs.declared.stage.Stage.{Stage}
 use Rattle.lawful_records.specs.declared.collector.CollectorMachine.{CollectorMachine}
 use Rattle.lawful_records.specs.declared.collector.CollectorMachine.TheVariants as collector
 use Rattle.lawful_records.specs.declared.stage.TheConstants.{SEARCHES}
-use Rattle.lawful_records.specs.Collectors.{word_of, mark_word, searched, planned, fed_of, look, looked, awaited, sought, to_tag, move_at, to_fix, behind_by, moved_by, stage_at_start, collector_of}
-use Rattle.lawful_records.specs.Handshakes.{HasDrawn, DrewBefore, IsMarked, IsStage, IsAwait, IsSearch, IsWork, work_before, IsCollector}
+use Rattle.lawful_records.specs.Collectors.{word_of, mark_word, is_planned, searched, fed_of, look, looked, awaited, sought, tag_at, move_at, target_at, source_at, work_at, moves_at, behind_by, moved_by, stage_at_start, collector_of}
+use Rattle.lawful_records.specs.Handshakes.{HasDrawn, DrewBefore, IsMarked, IsStage, IsAwait, IsSearch, IsWork, work_before, IsIn, IsCollector}
 use Rattle.lawful_records.specs.Searches.{Seeks}
 use Rattle.lawful_records.proofs.collecting.Seeking.{seeks_begun, seeks_on}
 
 -- ---- a look
 
-module _ {R W E M : Type 0} (kit : Kit R W E M) where
+module _ {R W E M : Type 0} (kit : Kit R W E M) (plan : Planned) where
   -- it goes on where it found the announced word or that of Retired, and else is the same again
   look_tells_by : (s : Stage) (pass : ℕ) (m : AwaitMachine) (found : ℕ) (same ended : Bool) → (found == word_of s) ≡ same → (found == retired_word) ≡ ended →
-      (((found ≡ retired_word) ⊎ (found ≡ word_of s)) × (looked kit s pass m (Some (if same then Answered else (if ended then Retired else NotYet pass found))) ≡ awaited kit s pass))
-      ⊎ (looked kit s pass m (Some (if same then Answered else (if ended then Retired else NotYet pass found))) ≡ collector.Await s pass m)
+      (((found ≡ retired_word) ⊎ (found ≡ word_of s)) × (looked kit plan s pass m (Some (if same then Answered else (if ended then Retired else NotYet pass found))) ≡ awaited kit plan s pass))
+      ⊎ (looked kit plan s pass m (Some (if same then Answered else (if ended then Retired else NotYet pass found))) ≡ collector.Await s pass m)
   look_tells_by s pass m found true ended is other = inl (inr (eqb-true found (word_of s) is), refl)
   look_tells_by s pass m found false true is other = inl (inl (eqb-true found retired_word other), refl)
   look_tells_by s pass m found false false is other = inr refl
 
   pub look_tells : (fed : M → ℕ → M) (s : Stage) (pass found : ℕ) →
-      (((found ≡ retired_word) ⊎ (found ≡ word_of s)) × (fed_of kit fed (look s pass) found ≡ awaited kit s pass)) ⊎ (fed_of kit fed (look s pass) found ≡ look s pass)
+      (((found ≡ retired_word) ⊎ (found ≡ word_of s)) × (fed_of kit fed plan (look s pass) found ≡ awaited kit plan s pass)) ⊎ (fed_of kit fed plan (look s pass) found ≡ look s pass)
   look_tells fed s pass found = look_tells_by s pass (await.Acknowledgement (ack_at pass) pass (word_of s)) found (found == word_of s) (found == retired_word) refl refl
 
 -- ---- what was drawn, from one announcement to the next
@@ -70,9 +73,85 @@ drawn_first cycle m few = record { first = omega arith; last = omega arith; some
 drawn_next : (cycle : ℕ) (m : Marks) → HasDrawn cycle m → m.round < SEARCHES → HasDrawn cycle (record { candidates = record m.candidates { drawn = min ((let c = m.candidates in c.drawn) + 1) (2 ^ 32 - 1) }; round = m.round + 1; clear = false })
 drawn_next cycle m is more = record { first = omega arith; last = omega (arith, more); some = omega (arith, is.some, is.last); few = omega (arith, is.few) }
 
+-- ---- stages
+
 module _ {R W E M : Type 0} (kit : Kit R W E M) (fed : M → ℕ → M) (l : Sizes) (kind : Kind) (cycles : ℕ) where
+  -- another announcement of the cycle
+  plays_next : (s : Stage) (next : Announcement) → IsStage l kind cycles s → IsMarked (is_clover kind) next s.cycle s.marks → IsStage l kind cycles (record s { announcement = next })
+  plays_next s next is marked = record { layout = is.layout; kind_is = is.kind_is; cycles_are = is.cycles_are; first = is.first; last = is.last; marked = marked }
+
+  -- what was drawn, where this is announced
+  marked_at : (s : Stage) (a : Announcement) → IsStage l kind cycles s → s.announcement ≡ a → IsMarked (is_clover kind) a s.cycle s.marks
+  marked_at s a is e = subst (λ (x : Announcement). IsMarked (is_clover kind) x s.cycle s.marks) e is.marked
+
+  -- the next search
+  plays_search : (s : Stage) (round : ℕ) → IsStage l kind cycles s → is_clover kind ≡ true → HasDrawn s.cycle (let t = searched s round in t.marks) → IsSearch l kind cycles (searched s round)
+  plays_search s round is clover drawn = record {
+    stage = record { layout = is.layout; kind_is = is.kind_is; cycles_are = is.cycles_are; first = is.first; last = is.last; marked = rw clover (drawn, refl) };
+    search = refl;
+  }
+
+  -- the machine of an await is the look at its pass
+  pub await_is : (s : Stage) (pass : ℕ) (m : AwaitMachine) → IsAwait l kind cycles s pass m → collector.Await s pass m ≡ look {M = M} s pass
+  await_is s pass m is = ap (λ (x : AwaitMachine). collector.Await s pass x) is.look
+
+  -- ---- a search
+
+  module _ (s : Stage) (is : IsSearch l kind cycles s) where
+    searching : IsMarked (is_clover kind) Search s.cycle s.marks
+    searching = marked_at s Search is.stage is.search
+
+    -- only where marks are sought
+    pub seeks_marks : (b : Bool) → IsMarked b Search s.cycle s.marks → is_clover kind ≡ b → is_clover kind ≡ true
+    seeks_marks true marked e = e
+    seeks_marks false marked e = absurd marked.0
+
+    seeks_clover : is_clover kind ≡ true
+    seeks_clover = seeks_marks (is_clover kind) searching refl
+
+    pub has_drawn : HasDrawn s.cycle s.marks × (s.marks.clear ≡ false)
+    has_drawn = rw seeks_clover at searching
+
+-- ---- turns
+
+module _ {R W E M : Type 0} (kit : Kit R W E M) (fed : M → ℕ → M) (plan : Planned) (l : Sizes) (kind : Kind) (cycles : ℕ) where
   abbrev Plays : CollectorMachine M → Type 0
-  Plays k = IsCollector l kind cycles k
+  Plays k = IsCollector l kind cycles plan k
+
+  -- ---- its work on the plan
+
+  -- the next thing is done, or this is announced
+  plays_tag : (o : Option MoveJob) (s : Stage) (at : ℕ) → slice_get plan.jobs at ≡ o → IsWork l kind cycles Copy s → is_clover kind ≡ false → Plays (tag_at o s at)
+  plays_tag None s at e work plain = work.stage
+  plays_tag (Some job) s at e work plain = (work, plain, (at, e))
+
+  plays_move : (o : Option MoveJob) (s : Stage) (at : ℕ) → slice_get plan.jobs at ≡ o → IsWork l kind cycles Fix s → Plays (move_at kit o s at)
+  plays_move None s at e work = work.stage
+  plays_move (Some job) s at e work = (work, (at, e), (let within = slice_get_within plan.jobs at job e in omega (arith, within)))
+
+  work_next : (s : Stage) (b : Bool) → is_clover kind ≡ b → IsWork l kind cycles (work_before kind) s → IsWork l kind cycles (if b then Fix else Copy) s
+  work_next s b c work = record { stage = work.stage; next_is = work.next_is ∙ rw c refl; planned = work.planned; clear = work.clear }
+
+  plays_targeted : (s : Stage) (b : Bool) → is_clover s.kind ≡ b → IsWork l kind cycles (work_before kind) s → Plays (if b then move_at kit (slice_get plan.jobs 0) s 0 else tag_at (slice_get plan.jobs 0) s 0)
+  plays_targeted s true c work = let yes = sym (ap is_clover work.stage.kind_is) ∙ c in plays_move (slice_get plan.jobs 0) s 0 refl (work_next s true yes work)
+  plays_targeted s false c work = let no = sym (ap is_clover work.stage.kind_is) ∙ c in plays_tag (slice_get plan.jobs 0) s 0 refl (work_next s false no work) no
+
+  plays_target : (o : Option MoveJob) (s : Stage) (at : ℕ) → slice_get plan.jobs at ≡ o → IsWork l kind cycles (work_before kind) s → Plays (target_at kit plan o s at)
+  plays_target None s at e work = plays_targeted s (is_clover s.kind) refl work
+  plays_target (Some job) s at e work = (work, (job, (at, e), refl))
+
+  plays_source : (o : Option ℕ) (s : Stage) (at : ℕ) → slice_get plan.chosen at ≡ o → IsWork l kind cycles (work_before kind) s → Plays (source_at kit plan o s at)
+  plays_source None s at e work = plays_target (slice_get plan.jobs 0) s 0 refl work
+  plays_source (Some region) s at e work = (work, (at, e))
+
+  -- the work begins, where the cycle has the plan
+  plays_work : (s : Stage) (b : Bool) → is_planned s ≡ b → IsStage l kind cycles s → s.announcement ≡ work_before kind → (is_clover kind ≡ true → s.marks.clear ≡ true) → Plays (if b then source_at kit plan (slice_get plan.chosen 0) s 0 else collector.Announce s)
+  plays_work s true e stage next clear = plays_source (slice_get plan.chosen 0) s 0 refl (record { stage = stage; next_is = next; planned = e; clear = clear })
+  plays_work s false e stage next clear = stage
+
+  plays_moves : (s : Stage) (b : Bool) → is_planned s ≡ b → IsStage l kind cycles s → s.announcement ≡ Fix → (is_clover kind ≡ true → s.marks.clear ≡ true) → Plays (if b then move_at kit (slice_get plan.jobs 0) s 0 else collector.Announce s)
+  plays_moves s true e stage next clear = plays_move (slice_get plan.jobs 0) s 0 refl (record { stage = stage; next_is = next; planned = e; clear = clear })
+  plays_moves s false e stage next clear = stage
 
   -- ---- the next announcement
 
@@ -94,102 +173,72 @@ module _ {R W E M : Type 0} (kit : Kit R W E M) (fed : M → ℕ → M) (l : Siz
     free = free;
   }
 
-  -- another announcement of the cycle
-  plays_next : (s : Stage) (next : Announcement) → IsStage l kind cycles s → IsMarked (is_clover kind) next s.cycle s.marks → IsStage l kind cycles (record s { announcement = next })
-  plays_next s next is marked = record { layout = is.layout; kind_is = is.kind_is; cycles_are = is.cycles_are; first = is.first; last = is.last; marked = marked }
-
-  -- what was drawn, where this is announced
-  marked_at : (s : Stage) (a : Announcement) → IsStage l kind cycles s → s.announcement ≡ a → IsMarked (is_clover kind) a s.cycle s.marks
-  marked_at s a is e = subst (λ (x : Announcement). IsMarked (is_clover kind) x s.cycle s.marks) e is.marked
-
-  -- the next search
-  plays_search : (s : Stage) (round : ℕ) → IsStage l kind cycles s → is_clover kind ≡ true → HasDrawn s.cycle (let t = searched s round in t.marks) → IsSearch l kind cycles (searched s round)
-  plays_search s round is clover drawn = record {
-    stage = record { layout = is.layout; kind_is = is.kind_is; cycles_are = is.cycles_are; first = is.first; last = is.last; marked = rw clover (drawn, refl) };
-    search = refl;
-  }
-
-  plays_to_tag : (s : Stage) (job : Option MoveJob) → IsStage l kind cycles s → s.announcement ≡ Confirm → is_clover kind ≡ false → planned s ≡ job → Plays (to_tag job s)
-  plays_to_tag s None is e plain planned_is = plays_next s Copy is (tagging s is e plain)
-    where
-      tagging : (s : Stage) → IsStage l kind cycles s → s.announcement ≡ Confirm → is_clover kind ≡ false → IsMarked (is_clover kind) Copy s.cycle s.marks
-      tagging s is e plain = let marked : IsMarked false Confirm s.cycle s.marks = rw plain at (marked_at s Confirm is e) in rw plain (tt, marked.1, marked.2)
-  plays_to_tag s (Some job) is e plain planned_is =
-      let marked : IsMarked false Confirm s.cycle s.marks = rw plain at (marked_at s Confirm is e) in
-      record { stage = plays_next s Copy is (rw plain (tt, marked.1, marked.2)); next_is = rw plain refl; job_is = planned_is; clear = λ clover. absurd (let no : false ≡ true = sym plain ∙ clover in cc no) }
-
   module _ (fits : IsLayout l) (s : Stage) (is : IsStage l kind cycles s) where
     clover_is : is_clover s.kind ≡ is_clover kind
     clover_is = ap is_clover is.kind_is
 
-    -- after Confirm a mark is sought, or the object of a job is tagged
-    to_copy_by : (b : Bool) → is_clover s.kind ≡ b → s.announcement ≡ Confirm → Plays (if b then collector.Draw (searched s 1) else to_tag (planned s) s)
-    to_copy_by true c e = let yes = sym clover_is ∙ c in plays_search s 1 is yes (drawn_first s.cycle s.marks (rw yes at (marked_at s Confirm is e)))
-    to_copy_by false c e = plays_to_tag s (planned s) is e (sym clover_is ∙ c) refl
+    abbrev at_copy : Stage
+    at_copy = record s { announcement = Copy }
 
-    -- after Copy the object is moved
-    work_fix : (job : MoveJob) → s.announcement ≡ Copy → planned s ≡ Some job → IsStage l kind cycles (record s { announcement = Fix })
-    work_fix job e planned_is = plays_next s Fix is (marked_fix (is_clover kind) s.cycle s.marks (marked_at s Copy is e))
+    abbrev at_fix : Stage
+    at_fix = record s { announcement = Fix }
+
+    -- after Confirm a mark is sought, or objects are tagged
+    pub copy_stage : is_clover kind ≡ false → s.announcement ≡ Confirm → IsStage l kind cycles at_copy
+    copy_stage plain e = let marked : IsMarked false Confirm s.cycle s.marks = rw plain at (marked_at kit fed l kind cycles s Confirm is e) in plays_next kit fed l kind cycles s Copy is (rw plain (tt, marked.1, marked.2))
+
+    to_copy_by : (b : Bool) → is_clover s.kind ≡ b → s.announcement ≡ Confirm → Plays (if b then collector.Draw (searched s 1) else work_at kit plan at_copy)
+    to_copy_by true c e = let yes = sym clover_is ∙ c in plays_search kit fed l kind cycles s 1 is yes (drawn_first s.cycle s.marks (rw yes at (marked_at kit fed l kind cycles s Confirm is e)))
+    to_copy_by false c e =
+        let no = sym clover_is ∙ c in
+        plays_work at_copy (is_planned at_copy) refl (copy_stage no e) (rw no refl) (λ clover. absurd (let both : false ≡ true = sym no ∙ clover in cc both))
+
+    -- after Copy they are moved
+    pub fix_stage : s.announcement ≡ Copy → IsStage l kind cycles at_fix
+    fix_stage e = plays_next kit fed l kind cycles s Fix is (marked_fix (is_clover kind) s.cycle s.marks (marked_at kit fed l kind cycles s Copy is e))
 
     -- which comes after a search that ended clear
-    copy_clear : is_clover kind ≡ true → IsMarked (is_clover kind) Copy s.cycle s.marks → s.marks.clear ≡ true
-    copy_clear clover marked = (rw clover at marked).1
+    pub copy_clear : s.announcement ≡ Copy → is_clover kind ≡ true → s.marks.clear ≡ true
+    copy_clear e clover = (rw clover at (marked_at kit fed l kind cycles s Copy is e)).1
 
-    to_fix_by : (job : MoveJob) (b : Bool) → is_clover s.kind ≡ b → s.announcement ≡ Copy → planned s ≡ Some job
-        → Plays (if b then collector.Source (record s { announcement = Fix }) job else move_at kit (record s { announcement = Fix }) job)
-    to_fix_by job true c e planned_is = record { stage = work_fix job e planned_is; next_is = rw (sym clover_is ∙ c) refl; job_is = planned_is; clear = λ clover. copy_clear clover (marked_at s Copy is e) }
-    to_fix_by job false c e planned_is = record { stage = work_fix job e planned_is; next_is = refl; job_is = planned_is; clear = λ clover. copy_clear clover (marked_at s Copy is e) }
+    to_fix_by : (b : Bool) → is_clover s.kind ≡ b → s.announcement ≡ Copy → Plays (if b then work_at kit plan at_fix else moves_at kit plan at_fix)
+    to_fix_by true c e = plays_work at_fix (is_planned at_fix) refl (fix_stage e) (rw (sym clover_is ∙ c) refl) (copy_clear e)
+    to_fix_by false c e = plays_moves at_fix (is_planned at_fix) refl (fix_stage e) refl (copy_clear e)
 
-    plays_to_fix : (job : Option MoveJob) → s.announcement ≡ Copy → planned s ≡ job → Plays (to_fix kit job s)
-    plays_to_fix None e planned_is = plays_next s Fix is (marked_fix (is_clover kind) s.cycle s.marks (marked_at s Copy is e))
-    plays_to_fix (Some job) e planned_is = to_fix_by job (is_clover s.kind) refl e planned_is
-
-    plays_behind : (a : Announcement) → s.announcement ≡ a → Plays (behind_by kit a s)
-    plays_behind Mark e = plays_next s Confirm is (marked_confirm (is_clover kind) s.cycle s.marks (marked_at s Mark is e))
+    plays_behind : (a : Announcement) → s.announcement ≡ a → Plays (behind_by kit plan a s)
+    plays_behind Mark e = plays_next kit fed l kind cycles s Confirm is (marked_confirm (is_clover kind) s.cycle s.marks (marked_at kit fed l kind cycles s Mark is e))
     plays_behind Confirm e = to_copy_by (is_clover s.kind) refl e
     plays_behind Search e = record { at = record { stage = is; search = e }; seeks = seeks_begun l s.layout (mark_word s) fits is.layout }
-    plays_behind Copy e = plays_to_fix (planned s) e refl
-    plays_behind Fix e = plays_next s Free is (marked_free (is_clover kind) s.cycle s.marks (marked_at s Fix is e))
-    plays_behind Free e = plays_behind_free s (nat_lt s.cycle s.cycles) is.layout is.kind_is is.cycles_are is.last e (marked_mark (is_clover kind) s.cycle s.marks is.first (marked_at s Free is e)) refl
+    plays_behind Copy e = to_fix_by (is_clover s.kind) refl e
+    plays_behind Fix e = plays_next kit fed l kind cycles s Free is (marked_free (is_clover kind) s.cycle s.marks (marked_at kit fed l kind cycles s Fix is e))
+    plays_behind Free e = plays_behind_free s (nat_lt s.cycle s.cycles) is.layout is.kind_is is.cycles_are is.last e (marked_mark (is_clover kind) s.cycle s.marks is.first (marked_at kit fed l kind cycles s Free is e)) refl
 
-    plays_awaited : (pass : ℕ) (more : Bool) → 1 ≤ pass → nat_lt pass s.layout.passes ≡ more → Plays (if more then look s (pass + 1) else behind_by kit s.announcement s)
+    plays_awaited : (pass : ℕ) (more : Bool) → 1 ≤ pass → nat_lt pass s.layout.passes ≡ more → Plays (if more then look s (pass + 1) else behind_by kit plan s.announcement s)
     plays_awaited pass true least e =
         let passes : s.layout.passes ≡ l.passes = ap (λ (t : Sizes). t.passes) is.layout in
         record { stage = is; in_layout = (omega arith, grind (arith, nat_tests)); look = refl }
     plays_awaited pass false least e = plays_behind s.announcement refl
 
-    plays_look : (pass found : ℕ) → IsPass l pass → Plays (fed_of kit fed (look s pass) found)
-    plays_look pass found in_layout = elim (look_tells kit fed s pass found) [
+    plays_look : (pass found : ℕ) → IsPass l pass → Plays (fed_of kit fed plan (look s pass) found)
+    plays_look pass found in_layout = elim (look_tells kit plan fed s pass found) [
       | inl on ↦ subst Plays (sym on.1) (plays_awaited pass (nat_lt pass s.layout.passes) in_layout.0 refl)
       | inr again ↦ subst Plays (sym again) (record { stage = is; in_layout = in_layout; look = refl })
     ]
 
-  -- the machine of an await is the look at its pass
-  pub await_is : (s : Stage) (pass : ℕ) (m : AwaitMachine) → IsAwait l kind cycles s pass m → collector.Await s pass m ≡ look {M = M} s pass
-  await_is s pass m is = ap (λ (x : AwaitMachine). collector.Await s pass x) is.look
-
   -- ---- a search
 
   module _ (s : Stage) (is : IsSearch l kind cycles s) where
-    searching : IsMarked (is_clover kind) Search s.cycle s.marks
-    searching = marked_at s Search is.stage is.search
-
-    -- only where marks are sought
-    pub seeks_marks : (b : Bool) → IsMarked b Search s.cycle s.marks → is_clover kind ≡ b → is_clover kind ≡ true
-    seeks_marks true marked e = e
-    seeks_marks false marked e = absurd marked.0
-
     clover : is_clover kind ≡ true
-    clover = seeks_marks (is_clover kind) searching refl
+    clover = seeks_clover kit fed l kind cycles s is
 
-    pub has_drawn : HasDrawn s.cycle s.marks × (s.marks.clear ≡ false)
-    has_drawn = rw clover at searching
+    drawn : HasDrawn s.cycle s.marks × (s.marks.clear ≡ false)
+    drawn = has_drawn kit fed l kind cycles s is
 
     found_by : (more : Bool) → nat_lt s.marks.round SEARCHES ≡ more → Plays (if more then collector.Draw (searched s (s.marks.round + 1)) else collector.Announce (record s { announcement = Fix }))
-    found_by true e = plays_search s (s.marks.round + 1) is.stage clover (drawn_next s.cycle s.marks has_drawn.0 (grind (arith, nat_tests, e)))
+    found_by true e = plays_search kit fed l kind cycles s (s.marks.round + 1) is.stage clover (drawn_next s.cycle s.marks drawn.0 (grind (arith, nat_tests, e)))
     found_by false e =
         let most : SEARCHES ≤ s.marks.round = grind (arith, nat_tests, e) in
-        plays_next s Fix is.stage (rw clover (has_drawn.0, λ unclear. (let drawn = has_drawn.0 in omega (arith, most, drawn.last))))
+        plays_next kit fed l kind cycles s Fix is.stage (rw clover (drawn.0, λ unclear. (let has = drawn.0 in omega (arith, most, has.last))))
 
     plays_sought : (m : SeekMarkMachine) (end : Option SeekEnd) → (end ≡ None → Seeks l (mark_word s) m) → Plays (sought s m end)
     plays_sought m None on = record { at = is; seeks = on refl }
@@ -199,33 +248,28 @@ module _ {R W E M : Type 0} (kit : Kit R W E M) (fed : M → ℕ → M) (l : Siz
       cycles_are = is.stage.cycles_are;
       first = is.stage.first;
       last = is.stage.last;
-      marked = rw clover (let drawn = has_drawn.0 in record { first = drawn.first; last = drawn.last; some = drawn.some; few = drawn.few }, refl);
+      marked = rw clover (let has = drawn.0 in record { first = has.first; last = has.last; some = has.some; few = has.few }, refl);
     }
     plays_sought m (Some (MarkFound place)) on = found_by (nat_lt s.marks.round SEARCHES) refl
 
-  -- ---- its work on a job
-
-  -- the next thing, where the regions have their words
-  targeted_by : (s : Stage) (job : MoveJob) (b : Bool) → is_clover s.kind ≡ b → IsWork l kind cycles (work_before kind) s job → Plays (if b then move_at kit s job else collector.Tag s job)
-  targeted_by s job true c is = let yes = sym (ap is_clover is.stage.kind_is) ∙ c in record { stage = is.stage; next_is = is.next_is ∙ rw yes refl; job_is = is.job_is; clear = is.clear }
-  targeted_by s job false c is = let no = sym (ap is_clover is.stage.kind_is) ∙ c in (record { stage = is.stage; next_is = is.next_is ∙ rw no refl; job_is = is.job_is; clear = is.clear }, no)
+  -- ---- each step
 
   -- after a step of the move
-  plays_moved : (s : Stage) (job : MoveJob) (m : M) (end : Option MoveEnd) → IsWork l kind cycles Fix s job → Plays (moved_by kit s job m end)
-  plays_moved s job m None is = is
-  plays_moved s job m (Some end) is = is.stage
+  plays_moved : (s : Stage) (job : MoveJob) (next : ℕ) (m : M) (end : Option MoveEnd) → IsWork l kind cycles Fix s → IsIn plan.jobs job → next ≤ length plan.jobs → Plays (moved_by kit plan s job next m end)
+  plays_moved s job next m None work its within = (work, its, within)
+  plays_moved s job next m (Some end) work its within = plays_move (slice_get plan.jobs next) s next refl work
 
   -- every word that it is fed leaves it a collector of these cycles
-  pub plays_fed : (k : CollectorMachine M) (found : ℕ) → IsLayout l → Plays k → Plays (fed_of kit fed k found)
+  pub plays_fed : (k : CollectorMachine M) (found : ℕ) → IsLayout l → Plays k → Plays (fed_of kit fed plan k found)
   plays_fed (collector.Announce s) found layout is = record { stage = is; in_layout = (omega arith, layout.passes.0); look = refl }
   plays_fed (collector.Await s pass m) found layout is =
-      subst (λ (k : CollectorMachine M). Plays (fed_of kit fed k found)) (sym (await_is s pass m is)) (plays_look layout s is.stage pass found is.in_layout)
+      subst (λ (k : CollectorMachine M). Plays (fed_of kit fed plan k found)) (sym (await_is kit fed l kind cycles s pass m is)) (plays_look layout s is.stage pass found is.in_layout)
   plays_fed (collector.Draw s) found layout is = is.stage
   plays_fed (collector.Seek s m) found layout is = plays_sought s is.at (seeks.fed_of m found) (seeks.end_of (seeks.fed_of m found)) (λ on. seeks_on l (mark_word s) m found is.seeks on)
-  plays_fed (collector.Source s job) found layout is = is
-  plays_fed (collector.Target s job) found layout is = targeted_by s job (is_clover s.kind) refl is
-  plays_fed (collector.Tag s job) found layout is = is.0.stage
-  plays_fed (collector.Move s job m) found layout is = plays_moved s job (fed m found) (kit.move_ended (fed m found)) is
+  plays_fed (collector.Source s region next) found layout is = plays_source (slice_get plan.chosen next) s next refl is.0
+  plays_fed (collector.Target s region next) found layout is = plays_target (slice_get plan.jobs next) s next refl is.0
+  plays_fed (collector.Tag s job next) found layout is = plays_tag (slice_get plan.jobs next) s next refl is.0 is.1
+  plays_fed (collector.Move s job next m) found layout is = plays_moved s job next (fed m found) (kit.move_ended (fed m found)) is.0 is.1 is.2
   plays_fed (collector.Done s) found layout is = is
 
 -- nothing is drawn at the start
@@ -233,6 +277,6 @@ start_marked : (clover : Bool) (kind : Kind) (l : Sizes) (cycles salt : ℕ) →
 start_marked true kind l cycles salt = omega arith
 start_marked false kind l cycles salt = (tt, refl, refl)
 
-pub plays_from_start : {R W E M : Type 0} (kit : Kit R W E M) (l : Sizes) (cycles salt : ℕ) → IsCollector l kit.kind cycles (collector_of kit l cycles salt)
-plays_from_start kit l cycles salt =
-    plays_behind_free kit (λ m n. m) l kit.kind cycles (stage_at_start kit.kind l cycles salt) (nat_lt 0 cycles) refl refl refl (omega arith) refl (start_marked (is_clover kit.kind) kit.kind l cycles salt) refl
+pub plays_from_start : {R W E M : Type 0} (kit : Kit R W E M) (plan : Planned) (l : Sizes) (cycles salt : ℕ) → IsCollector l kit.kind cycles plan (collector_of kit plan l cycles salt)
+plays_from_start kit plan l cycles salt =
+    plays_behind_free kit (λ m n. m) plan l kit.kind cycles (stage_at_start kit.kind l cycles salt) (nat_lt 0 cycles) refl refl refl (omega arith) refl (start_marked (is_clover kit.kind) kit.kind l cycles salt) refl

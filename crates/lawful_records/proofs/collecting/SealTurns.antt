@@ -1,15 +1,14 @@
 -- What the step of the mover seals, by what is known of it.
 use Rattle.std.specs.Prelude.{◌+◌, ◌<◌, ◌^◌, ◌&&◌, if◌then◌else◌}
-use Rattle.std.specs.List.{All}
-use Rattle.std.proofs.Common.{inl, inr, ◌≡◌, ◌≢◌, ℕ, ◌≤◌, ◌⊎◌, ◌==◌, Bool, true, false, List, [], ◌++◌, Option, Some, None, refl, sym, ap, ◌∙◌, subst, arith}
+use Rattle.std.proofs.Common.{inl, inr, ◌≡◌, ◌≢◌, ℕ, ◌≤◌, ◌⊎◌, ◌==◌, Bool, true, false, List, ◌++◌, Option, Some, None, refl, sym, ap, ◌∙◌, subst, arith, length}
 use Rattle.std.proofs.lemmas.Bool.{eq-eqb}
 use Rattle.std.proofs.lemmas.Bool.Decides.{eqb_tells}
 use Rattle.std.proofs.lemmas.List.{append-nil}
-use Rattle.std.proofs.lemmas.List.Elements.{All-weaker, All-append, All-cons, All-nil}
+use Rattle.std.proofs.lemmas.List.Elements.{All-weaker}
 use Rattle.std.proofs.Math.Bool.{and-false}
 use Rattle.call_steps.specs.declared.step.Step.{Step}
 use Rattle.call_steps.specs.Steps.{place_of}
-use Rattle.heap_words.specs.Layouts.{Sizes, first_word}
+use Rattle.heap_words.specs.Layouts.{Sizes}
 use Rattle.heap_history.specs.declared.call.Call.{Call}
 use Rattle.heap_words.specs.declared.field_word.FieldWord.{FieldWord}
 use Rattle.object_headers.specs.declared.change.Kind.{Kind}
@@ -36,12 +35,13 @@ use Rattle.barriers.specs.JobLaws.{job_word-of}
 use Rattle.barriers.proofs.words.Headers.{home_live, home_there, header_len, header_birth, home_born}
 use Rattle.barriers.proofs.words.Rows.{row_area}
 use Rattle.barriers.proofs.words.Sets.{set_here, set_else}
-use Rattle.lawful_records.specs.declared.job.TheConstants.{EMPTIED}
 use Rattle.lawful_records.specs.declared.records.Sealed.{Sealed}
 use Rattle.lawful_records.specs.Jobs.{does_seal, is_tagged, is_tagged_state}
 use Rattle.lawful_records.specs.LawfulRecords.{IsThereSealed, AreSealed}
 use Rattle.lawful_records.specs.Turns.{sealed_as}
-use Rattle.lawful_records.proofs.collecting.MoveSeals.{sealed_as_was, sealed_more, none_before}
+use Rattle.lawful_records.proofs.collecting.MoveSeals.{sealed_as_was, sealed_more}
+use Rattle.lawful_records.specs.Counts.{unsealed}
+use Rattle.lawful_records.proofs.collecting.Counted.{seal_on}
 
 -- whether the word of a header is that of a Tagged one
 tagged_by_header : (h : Header) (word : ℕ) → IsHeader h → word ≡ word_of_header h → is_tagged word ≡ is_tagged_state (let g = h in g.state)
@@ -55,7 +55,7 @@ not_live : (x y : State) → x ≡ y → (IsLive y → ⊥) → IsLive x → ⊥
 not_live x y e none live = none (subst IsLive e live)
 
 module _ (P : Protocol) (kind : Kind) (movable : MovingLaws kind P) (l : Sizes) (memory : ℕ → ℕ) (c : Cycle) (s : Space) (n : Notices) (rows : Rows l s.state s.len s.ends s.region) (says : Says l memory s n) (objects : AreObjects P c s) (job : MoveJob)
-    (place : job.from ≡ first_word l EMPTIED) (some : job.len ≢ 0) (wide : is_stopless kind ≡ true → job.wide ≢ 0) (sealed : List Sealed) (are : AreSealed s sealed) (only : All (λ (one : Sealed). one.at ≡ first_word l EMPTIED) sealed) where
+    (wide : is_stopless kind ≡ true → job.wide ≢ 0) (sealed : List Sealed) (are : AreSealed s sealed) where
   abbrev T : Carried → Space
   T y = space_moved l c.mark s y
 
@@ -71,17 +71,16 @@ module _ (P : Protocol) (kind : Kind) (movable : MovingLaws kind P) (l : Sizes) 
   abbrev now : Bool → List Sealed
   now sealing = sealed_as (if sealing then Some job else None) s.history
 
-  -- what is sealed after its step; where that seals, nothing was before
+  -- what is sealed after its step, and its own seal is one that was to come
   pub record SealsBy (y : Carried) : Type 0 where
     pub are_then : AreSealed (T y) (sealed ++ now (seals y))
-    pub only_then : All (λ (one : Sealed). one.at ≡ first_word l EMPTIED) (sealed ++ now (seals y))
-    pub alone : seals y ≡ true → sealed ≡ []
+    pub counts : length (now (seals y)) + unsealed ((T y).seal job.from) ≤ unsealed (s.seal job.from)
 
-  seals_not : (y : Carried) → seals y ≡ false → AreSealed (T y) sealed → SealsBy y
-  seals_not y quiet after = record {
+  seals_not : (y next : Carried) → IsMove P c s y job → MovesTo P c s (T y) next job → seals y ≡ false → AreSealed (T y) sealed → SealsBy y
+  seals_not y next move to quiet after = record {
     are_then = subst (λ sealing. AreSealed (T y) (sealed ++ now sealing)) (sym quiet) (subst (AreSealed (T y)) (sym (append-nil sealed)) after);
-    only_then = subst (λ sealing. All (λ (one : Sealed). one.at ≡ first_word l EMPTIED) (sealed ++ now sealing)) (sym quiet) (subst (All (λ (one : Sealed). one.at ≡ first_word l EMPTIED)) (sym (append-nil sealed)) only);
-    alone = λ yes. absurd (let both : false ≡ true = sym quiet ∙ yes in cc both);
+    counts = subst (λ sealing. length (now sealing) + unsealed ((T y).seal job.from) ≤ unsealed (s.seal job.from)) (sym quiet)
+        (let on = seal_on s (T y) job.from (λ past e. to.sealed job.from past (home_live (s.state job.from) move.live) e) in omega (arith, on));
   }
 
   -- where states, lens and seals are the same
@@ -105,10 +104,6 @@ module _ (P : Protocol) (kind : Kind) (movable : MovingLaws kind P) (l : Sizes) 
 
     more_by : (IsLive (s.state job.to) → ⊥) → (IsLive (t.state job.to) → t.seal job.to ≡ None) → s.seal job.from ≡ None → t.seal job.from ≡ Some s.history → AreSealed t (sealed ++ now true)
     more_by under copy none is = sealed_more l s t job.from job.to rows_then to.seen.live to.seen.len home (λ a x z. (let same = to.others a x z in (same.state, same.seal))) under copy sealed are s.history job.len move.len none is
-
-    alone_by : (IsLive (s.state job.to) → ⊥) → (IsLive (t.state job.to) → t.seal job.to ≡ None) → s.seal job.from ≡ None → t.seal job.from ≡ Some s.history → sealed ≡ []
-    alone_by under copy none is = none_before l s t job.from job.to rows_then to.seen.live to.seen.len home (λ a x z. (let same = to.others a x z in (same.state, same.seal))) under copy sealed are s.history job.len move.len none is some
-        (All-weaker (λ (one : Sealed). one.at ≡ first_word l EMPTIED) (λ (one : Sealed). one.at ≡ job.from) (λ one e. e ∙ sym place) sealed only)
 
   -- ---- the header of the original
 
@@ -177,11 +172,9 @@ module _ (P : Protocol) (kind : Kind) (movable : MovingLaws kind P) (l : Sizes) 
       let apart : job.to ≢ job.from = λ same. under (subst (λ a. IsLive (s.state a)) (sym same) (home_live (s.state job.from) move.live)) in
       let copy : IsLive ((T y).state job.to) → (T y).seal job.to ≡ None = λ live. ap (λ (g : ℕ → Option (List Call)). g job.to) now_sealed ∙ (set_else s.seal job.from job.to (Some s.history) apart ∙ laid.seal) in
       let its : (T y).seal job.from ≡ Some s.history = ap (λ (g : ℕ → Option (List Call)). g job.from) now_sealed ∙ set_here s.seal job.from (Some s.history) in
-      let At : Sealed → Type 0 = λ one. one.at ≡ first_word l EMPTIED in
       record {
         are_then = subst (λ sealing. AreSealed (T y) (sealed ++ now sealing)) (sym does) (more_by y next move to rows_then under copy none its);
-        only_then = subst (λ sealing. All At (sealed ++ now sealing)) (sym does) (All-append At sealed (now true) only (All-cons At _ [] place (All-nil At)));
-        alone = λ so. alone_by y next move to rows_then under copy none its;
+        counts = subst (λ sealing. length (now sealing) + unsealed ((T y).seal job.from) ≤ unsealed (s.seal job.from)) (sym does) (let was = ap unsealed none in let is = ap unsealed its in omega (arith, was, is));
       }
 
   module _ (next : Carried) where
@@ -198,19 +191,19 @@ module _ (P : Protocol) (kind : Kind) (movable : MovingLaws kind P) (l : Sizes) 
     lays_by move to rows_then =
         let under : IsLive (s.state job.to) → ⊥ = not_live (s.state job.to) Absent move.copy (λ live. live) in
         let apart : job.from ≢ job.to = λ same. under (subst (λ a. IsLive (s.state a)) same (home_live (s.state job.from) move.live)) in
-        seals_not (Lays job) refl (kept_by (Lays job) next move to rows_then under (λ live. set_here s.seal job.to None) (set_else s.seal job.to job.from None apart))
+        seals_not (Lays job) next move to refl (kept_by (Lays job) next move to rows_then under (λ live. set_here s.seal job.to None) (set_else s.seal job.to job.from None apart))
 
     gives_up_by : Step_of Gives_up job
     gives_up_by move to rows_then =
         let under : IsLive (s.state job.to) → ⊥ = laid_not_live move.copy.copy.state in
-        seals_not (Gives_up job) refl (kept_by (Gives_up job) next move to rows_then under (λ live. absurd (subst IsLive (set_here s.state job.to Dead) live)) refl)
+        seals_not (Gives_up job) next move to refl (kept_by (Gives_up job) next move to rows_then under (λ live. absurd (subst IsLive (set_here s.state job.to Dead) live)) refl)
 
     -- the exchange of a Tagged header for Wide
     seals_in : (x : State) → s.state job.from ≡ x → Step_of Seals job
     seals_in Tagged e move to rows_then =
         sealing (Seals job) next move e (seals_tagged (Seals job) move (job_word Tagged job) e refl) move.copy (ap (λ (t : Space). t.seal) (ap (seal_wide s job) e)) to rows_then
     seals_in x e move to rows_then =
-        seals_not (Seals job) (seals_none (Seals job) move (job_word Tagged job) (λ tagged. (let gone : x ≡ Tagged = sym e ∙ tagged in cc gone))) (subst (λ t. AreSealed t sealed) (sym (ap (seal_wide s job) e)) are)
+        seals_not (Seals job) next move to (seals_none (Seals job) move (job_word Tagged job) (λ tagged. (let gone : x ≡ Tagged = sym e ∙ tagged in cc gone))) (subst (λ t. AreSealed t sealed) (sym (ap (seal_wide s job) e)) are)
 
     -- and of a header for Forward: of a Tagged one where that is the state from which it goes there
     went_by : (x : State) → s.state job.from ≡ x → x ≢ Tagged → T (Forwards job) ≡ forward s job (s.seal job.from) → Step_of Forwards job
@@ -218,7 +211,7 @@ module _ (P : Protocol) (kind : Kind) (movable : MovingLaws kind P) (l : Sizes) 
         let under : IsLive (s.state job.to) → ⊥ = laid_not_live move.copy.copy.state in
         let apart : job.to ≢ job.from = λ same. under (subst (λ a. IsLive (s.state a)) (sym same) (home_live (s.state job.from) move.live)) in
         let copy : IsLive ((T (Forwards job)).state job.to) → (T (Forwards job)).seal job.to ≡ None = λ live. ap (λ (t : Space). t.seal job.to) gone ∙ (set_else s.seal job.from job.to (s.seal job.from) apart ∙ move.copy.seal) in
-        seals_not (Forwards job) (seals_none (Forwards job) move (job_word (forwards_from kind job) job) (λ tagged. other (sym e ∙ tagged)))
+        seals_not (Forwards job) next move to (seals_none (Forwards job) move (job_word (forwards_from kind job) job) (λ tagged. other (sym e ∙ tagged)))
         (kept_by (Forwards job) next move to rows_then under copy (ap (λ (t : Space). t.seal job.from) gone ∙ set_here s.seal job.from (s.seal job.from)))
 
     from_tagged : (x : State) → (Tagged ≡ x) ⊎ (Tagged ≡ Kept) → job_word Tagged job ≡ job_word x job
@@ -231,7 +224,7 @@ module _ (P : Protocol) (kind : Kind) (movable : MovingLaws kind P) (l : Sizes) 
     forwards_in (Wide w) e from move to rows_then = went_by (Wide w) e (λ gone. cc gone) (ap (forward_by s job) e) move to rows_then
     forwards_in (Moving t) e from move to rows_then = went_by (Moving t) e (λ gone. cc gone) (ap (forward_by s job) e) move to rows_then
     forwards_in x e from move to rows_then =
-        seals_not (Forwards job) (seals_none (Forwards job) move (job_word (forwards_from kind job) job) (λ tagged. (let gone : x ≡ Tagged = sym e ∙ tagged in cc gone))) (subst (λ t. AreSealed t sealed) (sym (ap (forward_by s job) e)) are)
+        seals_not (Forwards job) next move to (seals_none (Forwards job) move (job_word (forwards_from kind job) job) (λ tagged. (let gone : x ≡ Tagged = sym e ∙ tagged in cc gone))) (subst (λ t. AreSealed t sealed) (sym (ap (forward_by s job) e)) are)
 
     forwards_as : Step_of Forwards job
     forwards_as move to rows_then =
@@ -242,7 +235,7 @@ module _ (P : Protocol) (kind : Kind) (movable : MovingLaws kind P) (l : Sizes) 
     starts_as : Step_of Starts job
     starts_as move to rows_then =
         let plain : s.state job.from ≡ Plain = (movable.starts c job (here s job.from 0) move.head).1 in
-        seals_not (Starts job) (seals_none (Starts job) move (job_word Plain job) (λ tagged. (let gone : Plain ≡ Tagged = sym plain ∙ tagged in cc gone)))
+        seals_not (Starts job) next move to (seals_none (Starts job) move (job_word Plain job) (λ tagged. (let gone : Plain ≡ Tagged = sym plain ∙ tagged in cc gone)))
         (kept_by (Starts job) next move to rows_then (laid_not_live move.copy.copy.state) (λ live. move.copy.seal) refl)
 
     -- a step on a wide word or on a field changes no header
@@ -257,30 +250,30 @@ module _ (P : Protocol) (kind : Kind) (movable : MovingLaws kind P) (l : Sizes) 
 
     widens_as : (f : ℕ) (w : FieldWord) → Step_of (λ j. Widens j f w) job
     widens_as f w move to rows_then =
-        seals_not (Widens job f w) (not_there (job.wide + 1 + f) job.from _ (wide_apart (Widens job f w) move tt move.copy.wide f)) (field_same job.from f (widen_event w (s.status job.from f)))
+        seals_not (Widens job f w) next move to (not_there (job.wide + 1 + f) job.from _ (wide_apart (Widens job f w) move tt move.copy.wide f)) (field_same job.from f (widen_event w (s.status job.from f)))
 
     own_field : (at f : ℕ) → (at + 1 + f == at) ≡ false
     own_field at f = elim (eqb_tells (at + 1 + f) at) [ inl w ↦ absurd (omega (arith, w.1)) | inr w ↦ w.0 ]
 
     marks_as : (f : ℕ) (w : FieldWord) → Step_of (λ j. Marks j f w) job
-    marks_as f w move to rows_then = seals_not (Marks job f w) (not_there (job.from + 1 + f) job.from _ (own_field job.from f)) (field_same job.from f (mark_event c.mark w (s.word job.from f)))
+    marks_as f w move to rows_then = seals_not (Marks job f w) next move to (not_there (job.from + 1 + f) job.from _ (own_field job.from f)) (field_same job.from f (mark_event c.mark w (s.word job.from f)))
 
     finishes_as : (f : ℕ) (w : FieldWord) → Step_of (λ j. Finishes j f w) job
     finishes_as f w move to rows_then =
-        seals_not (Finishes job f w) (not_there (job.wide + 1 + f) job.from _ (wide_apart (Finishes job f w) move tt move.copy.wide f)) (field_same job.from f (finish_event w (s.status job.from f)))
+        seals_not (Finishes job f w) next move to (not_there (job.wide + 1 + f) job.from _ (wide_apart (Finishes job f w) move tt move.copy.wide f)) (field_same job.from f (finish_event w (s.status job.from f)))
 
     pub seals_by : (y : Carried) → job_of y ≡ Some job → IsMove P c s y job → MovesTo P c s (T y) next job → (let t = T y in Rows l t.state t.len t.ends t.region) → SealsBy y
     seals_by Idles e move to rows_then = absurd (let gone : None ≡ Some job = e in cc gone)
-    seals_by (Looks i) e move to rows_then = seals_not (Looks i) refl are
+    seals_by (Looks i) e move to rows_then = seals_not (Looks i) next move to refl are
     seals_by (Lays i) e move to rows_then = its_job i Lays e lays_by move to rows_then
-    seals_by (Points i) e move to rows_then = seals_not (Points i) refl (same_seals (T (Points i)) refl refl refl)
+    seals_by (Points i) e move to rows_then = seals_not (Points i) next move to refl (same_seals (T (Points i)) refl refl refl)
     seals_by (Gives_up i) e move to rows_then = its_job i Gives_up e gives_up_by move to rows_then
     seals_by (Seals i) e move to rows_then = its_job i Seals e (seals_in (s.state job.from) refl) move to rows_then
     seals_by (Starts i) e move to rows_then = its_job i Starts e starts_as move to rows_then
     seals_by (Forwards i) e move to rows_then = its_job i Forwards e forwards_as move to rows_then
-    seals_by (Takes_up i f) e move to rows_then = seals_not (Takes_up i f) refl are
-    seals_by (Asks i f) e move to rows_then = seals_not (Asks i f) refl are
+    seals_by (Takes_up i f) e move to rows_then = seals_not (Takes_up i f) next move to refl are
+    seals_by (Asks i f) e move to rows_then = seals_not (Asks i f) next move to refl are
     seals_by (Widens i f w) e move to rows_then = its_job i (λ j. Widens j f w) e (widens_as f w) move to rows_then
     seals_by (Finishes i f w) e move to rows_then = its_job i (λ j. Finishes j f w) e (finishes_as f w) move to rows_then
     seals_by (Marks i f w) e move to rows_then = its_job i (λ j. Marks j f w) e (marks_as f w) move to rows_then
-    seals_by (Puts i f w) e move to rows_then = seals_not (Puts i f w) refl (same_seals (T (Puts i f w)) refl refl refl)
+    seals_by (Puts i f w) e move to rows_then = seals_not (Puts i f w) next move to refl (same_seals (T (Puts i f w)) refl refl refl)

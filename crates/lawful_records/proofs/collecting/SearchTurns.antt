@@ -4,6 +4,7 @@ use Rattle.heap_words.specs.Layouts.{Sizes}
 use Rattle.object_headers.specs.Changes.{is_clover}
 use Rattle.handshakes.specs.declared.pass_view.PassView.{PassView}
 use Rattle.handshakes.specs.PhaseWords.{retired_word}
+use Rattle.space_reclaim.specs.Plans.{Planned}
 use Rattle.barriers.specs.States.{IsLive}
 use Rattle.barriers.specs.Stances.{Retired, stance_at, mark_in}
 use Rattle.barriers.specs.Stances.{Search as Search_stance, Free as Free_stance}
@@ -33,8 +34,8 @@ own_is false view is = absurd (cc is)
 
 module _ {R W E M : Type 0} (kit : Kit R W E M) (minds : kit.minds ≡ is_clover kit.kind) (l : Sizes) where
   pub search_stays : (k : CollectorMachine M) (s t : Space) (n : Notices) (p : PassKnown R W E) → Leaves kit.protocol l (cycle_of k) s t → ((at : ℕ) → IsLive (s.state at) → IsSameAt s t at) → LeavesSearch kit.kind (cycle_of k) (side_of kit p) s t
-      → IsPassRecord kit l (announced_by k) (cycle_of k) s n p → (cycles : ℕ) → cycles ≤ 64 → IsCollector l kit.kind cycles k → SearchStands l (cycle_of k) s k → SearchStands l (cycle_of k) t k
-  search_stays (collector.Seek st m) s t n p leaves heads search own cycles few collects is =
+      → IsPassRecord kit l (announced_by k) (cycle_of k) s n p → (plan : Planned) (cycles : ℕ) → cycles ≤ 64 → IsCollector l kit.kind cycles plan k → SearchStands l (cycle_of k) s k → SearchStands l (cycle_of k) t k
+  search_stays (collector.Seek st m) s t n p leaves heads search own plan cycles few collects is =
       sought_stays kit.protocol l (cycle_of k) s t leaves heads kit.kind (side_of kit p) search clover open_phase has_it m is
     where
       k : CollectorMachine M
@@ -57,4 +58,4 @@ module _ {R W E M : Type 0} (kit : Kit R W E M) (minds : kit.minds ≡ is_clover
           let so = answered_all l (announced_by k) (number_of p) (acked_of p) (mark_of p) own.number (omega (arith, passes)) own.answering.marked running in
           let mark : mark_of p ≡ mark_word st = so.1 ∙ ap (λ (a : Announcement). mark_by a (mark_word st)) collects.at.search in
           own_is kit.minds (view_by p.pass.machine p.pass.view) (minds ∙ clover) ∙ ap mark_in mark
-  search_stays k s t n p leaves heads search own cycles few collects is = tt
+  search_stays k s t n p leaves heads search own plan cycles few collects is = tt

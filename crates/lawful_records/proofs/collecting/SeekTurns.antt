@@ -20,6 +20,7 @@ use Rattle.mark_search.specs.DrawLaws.{last_some}
 use Rattle.mark_search.specs.Seeks as seeks
 use Rattle.mark_search.specs.Seeks.{search_for}
 use Rattle.mark_search.specs.SeekRuns.{cursor_of}
+use Rattle.space_reclaim.specs.Plans.{Planned}
 use Rattle.barriers.specs.Spaces.{Space, Here, here, place_word, copy_word, is_mark}
 use Rattle.barriers.specs.Says.{Notices}
 use Rattle.barriers.specs.States.{State, Plain, Kept, Tagged, Wide, Moving, Forward, IsHome, IsLive}
@@ -43,7 +44,7 @@ use Rattle.lawful_records.specs.declared.collector.CollectorMachine.{CollectorMa
 use Rattle.lawful_records.specs.declared.collector.CollectorMachine.TheVariants as collector
 use Rattle.lawful_records.specs.declared.stage.TheConstants.{SEARCHES}
 use Rattle.lawful_records.specs.declared.records.Sealed.{Sealed}
-use Rattle.lawful_records.specs.Collectors.{word_of, mark_word, is_refused, stage_before, searched, planned, sought}
+use Rattle.lawful_records.specs.Collectors.{word_of, mark_word, is_refused, stage_before, searched, jobs_of, sought}
 use Rattle.lawful_records.specs.Cycling.{announced_by, cycle_of, told_before, clear_before}
 use Rattle.lawful_records.specs.Handshakes.{HasDrawn, IsSearch}
 use Rattle.lawful_records.specs.JobStands.{stand_at, stand_at_copy, stand_of, StandsAt}
@@ -80,12 +81,12 @@ home_or_moved (Moving t) live = inl tt
 home_or_moved (Forward t) live = inr tt
 home_or_moved x live = absurd live
 
-module _ {R W E M : Type 0} (kit : Kit R W E M) (by : Stepping R W E M) (laws : Laws kit by) (l : Sizes) (words : List ℕ) (s : Space) (n : Notices) (counts : Awaited) (sealed : List Sealed) where
+module _ {R W E M : Type 0} (kit : Kit R W E M) (by : Stepping R W E M) (laws : Laws kit by) (l : Sizes) (words : List ℕ) (plan : Planned) (s : Space) (n : Notices) (counts : Awaited) (sealed : List Sealed) where
   abbrev Stands : CollectorMachine M → Type 0
-  Stands k = CollectorStands kit by l words s n counts sealed k
+  Stands k = CollectorStands kit by l words plan s n counts sealed k
 
   abbrev Heard : CollectorMachine M → Type 0
-  Heard k = HasHeard kit by laws l words s n counts sealed k
+  Heard k = HasHeard kit by laws l words plan s n counts sealed k
 
   puts : (k : CollectorMachine M) (stands : Stands k) (step : Step) → step ≢ Ended → IsInside (words_of l) step → Put (reading words) (reading (applied step words)) (place_of step) (put_by step (reading words (place_of step)))
   puts k stands step on inside = applied-puts step words on (subst (λ len. IsInside len step) (sym stands.width) inside)
@@ -140,8 +141,8 @@ module _ {R W E M : Type 0} (kit : Kit R W E M) (by : Stepping R W E M) (laws : 
     its_clover : is_clover kit.kind ≡ true
     its_clover = clover st stands.cycles stands.few stands.collects
 
-    planned_on : (a : Announcement) → a ≡ Search → StandsAt kit l (cycle_of drawing) s (stand_of drawing) → StandsAt kit l (cycle_of {M = M} (collector.Announce st)) s (stand_at (is_clover st.kind) a (planned st))
-    planned_on a is job = rw is (stand_on kit by laws l stands.layout s stands.rows (cycle_of drawing) (cycle_of {M = M} (collector.Announce st)) (is_clover st.kind) Search (planned st) job)
+    coming_on : (a : Announcement) → a ≡ Search → StandsAt kit l (cycle_of drawing) s (stand_of plan drawing) → StandsAt kit l (cycle_of {M = M} (collector.Announce st)) s (stand_at (is_clover st.kind) a (jobs_of plan st))
+    coming_on a is stands = rw is (stand_on kit l s (cycle_of drawing) (cycle_of {M = M} (collector.Announce st)) (is_clover st.kind) Search (jobs_of plan st) stands)
 
     pub heard_draw : Heard drawing
     heard_draw = record {
@@ -161,7 +162,7 @@ module _ {R W E M : Type 0} (kit : Kit R W E M) (by : Stepping R W E M) (laws : 
           (draw_goes kit laws.table laws.cycle s stands.resting laws.movable its_clover before Nobody (mark_in (mark_word (stage_before st))) (mark_word st) stands.objects side
           (subst (λ (c : Cycle). Fits kit laws.table laws.cycle s c side) (sym drawn_is) now));
       still = λ a moved. moved;
-      stands_then = planned_on st.announcement stands.collects.search stands.job;
+      stands_then = coming_on st.announcement stands.collects.search stands.jobs;
       search_then = tt;
       none_sealed = append-nil sealed;
     }
@@ -286,14 +287,14 @@ module _ {R W E M : Type 0} (kit : Kit R W E M) (by : Stepping R W E M) (laws : 
     record Parts (x : CollectorMachine M) : Type 0 where
       objects : AreObjects kit.protocol (cycle_of x) s
       goes : (side : Side) → Fits kit laws.table laws.cycle s c side → Fits kit laws.table laws.cycle s (cycle_of x) side → PassGoes kit laws.table laws.cycle s c (cycle_of x) side
-      stands_then : StandsAt kit l (cycle_of x) s (stand_of x)
+      stands_then : StandsAt kit l (cycle_of x) s (stand_of plan x)
       search_then : SearchStands l (cycle_of x) s x
 
     same_word : (end : Option SeekEnd) → (let a = announced_by {M = M} (sought st next end) in a.word) ≡ word_of st
     same_word end = ap (λ (a : Announced). a.word) (sought_announced kit l kit.kind stands.cycles stands.few st at m next end)
 
     -- where the cycle is the same
-    same_parts : (x : CollectorMachine M) → c ≡ cycle_of x → StandsAt kit l (cycle_of x) s (stand_of x) → SearchStands l (cycle_of x) s x → Parts x
+    same_parts : (x : CollectorMachine M) → c ≡ cycle_of x → StandsAt kit l (cycle_of x) s (stand_of plan x) → SearchStands l (cycle_of x) s x → Parts x
     same_parts x same job search = record {
       objects = subst (λ (d : Cycle). AreObjects kit.protocol d s) same stands.objects;
       goes = λ side was now. subst (λ (d : Cycle). PassGoes kit laws.table laws.cycle s c d side) same (goes_same kit laws.table laws.cycle s c side);
@@ -321,18 +322,18 @@ module _ {R W E M : Type 0} (kit : Kit R W E M) (by : Stepping R W E M) (laws : 
       search_then = tt;
     }
       where
-        job_clear : StandsAt kit l (cycle_of clear_next) s (stand_of clear_next)
+        job_clear : StandsAt kit l (cycle_of clear_next) s (stand_of plan clear_next)
         job_clear =
             let sought = ap is_clover at.stage.kind_is ∙ seek_clover in
-            let searching = stand_on kit by laws l stands.layout s stands.rows c (cycle_of clear_next) true Search (planned st) stands.job in
-            subst (λ clover. StandsAt kit l (cycle_of clear_next) s (stand_at_copy clover (planned st))) (sym sought) searching
+            let searching = stand_on kit l s c (cycle_of clear_next) true Search (jobs_of plan st) stands.jobs in
+            subst (λ clover. StandsAt kit l (cycle_of clear_next) s (stand_at_copy clover (jobs_of plan st))) (sym sought) searching
 
     found_parts : (more : Bool) → Parts (if more then collector.Draw (searched st (st.marks.round + 1)) else collector.Announce (record st { announcement = Fix }))
     found_parts true =
         let x : CollectorMachine M = collector.Draw (searched st (st.marks.round + 1)) in
         let said = ap (λ (a : Announced). a.word) (found_says {M = M} kit l kit.kind stands.cycles stands.few st at true 0) in
         same_parts x (rw (said, found_drawn {M = M} kit l kit.kind stands.cycles stands.few st at true) refl)
-        (stand_on kit by laws l stands.layout s stands.rows c (cycle_of x) (is_clover st.kind) Search (planned st) stands.job) tt
+        (stand_on kit l s c (cycle_of x) (is_clover st.kind) Search (jobs_of plan st) stands.jobs) tt
     found_parts false =
         let x : CollectorMachine M = collector.Announce (record st { announcement = Fix }) in
         let said = ap (λ (a : Announced). a.word) (found_says {M = M} kit l kit.kind stands.cycles stands.few st at false 0) in
@@ -341,7 +342,7 @@ module _ {R W E M : Type 0} (kit : Kit R W E M) (by : Stepping R W E M) (laws : 
         same_parts x (rw (said, sought, unclear) refl) tt tt
 
     parts_by : (end : Option SeekEnd) → seeks.end_of next ≡ end → Parts (sought st next end)
-    parts_by None e = same_parts (collector.Seek st next) refl stands.job (record { at = goes_next; passed = passed })
+    parts_by None e = same_parts (collector.Seek st next) refl stands.jobs (record { at = goes_next; passed = passed })
     parts_by (Some Clear) e = clear_parts e
     parts_by (Some (MarkFound place)) e = found_parts (nat_lt st.marks.round SEARCHES)
 
@@ -371,8 +372,8 @@ module _ {R W E M : Type 0} (kit : Kit R W E M) (by : Stepping R W E M) (laws : 
       none_sealed = append-nil sealed;
     }
 
-  pub draw_goes_on : (st : Stage) → Stands (collector.Draw st) → CollectorGoes kit by l words s n sealed (collector.Draw st)
-  draw_goes_on st stands = hearing_goes kit by laws l words s n counts sealed (collector.Draw st) stands (heard_draw st stands)
+  pub draw_goes_on : (st : Stage) → Stands (collector.Draw st) → CollectorGoes kit by l words plan s n sealed (collector.Draw st)
+  draw_goes_on st stands = hearing_goes kit by laws l words plan s n counts sealed (collector.Draw st) stands (heard_draw st stands)
 
-  pub seek_goes : (st : Stage) (m : SeekMarkMachine) → Stands (collector.Seek st m) → CollectorGoes kit by l words s n sealed (collector.Seek st m)
-  seek_goes st m stands = hearing_goes kit by laws l words s n counts sealed (collector.Seek st m) stands (heard_seek st m stands)
+  pub seek_goes : (st : Stage) (m : SeekMarkMachine) → Stands (collector.Seek st m) → CollectorGoes kit by l words plan s n sealed (collector.Seek st m)
+  seek_goes st m stands = hearing_goes kit by laws l words plan s n counts sealed (collector.Seek st m) stands (heard_seek st m stands)

@@ -1,222 +1,210 @@
--- The collector stores what the regions of the cycle's job are used for.
-use Rattle.std.specs.Prelude.{◌<◌, ◌==◌, if◌then◌else◌}
-use Rattle.std.proofs.Common.{Bool, true, false, inl, ◌≡◌, ◌≢◌, ℕ, ◌≤◌, List, refl, sym, ap, ◌∙◌, subst, arith}
-use Rattle.std.proofs.lemmas.Bool.Decides.{nat_tests}
+-- The collector stores what the regions of the cycle's plan are used for.
+use Rattle.std.specs.Prelude.{◌<◌, take}
+use Rattle.std.specs.List.{slice_get}
+use Rattle.std.proofs.Common.{inl, inr, ◌≡◌, ◌≢◌, ℕ, ◌≤◌, List, [], ◌++◌, refl, sym, ap, ◌∙◌, subst, arith, length}
 use Rattle.std.proofs.lemmas.List.{append-nil}
-use Rattle.std.specs.List.{All}
 use Rattle.std.proofs.lemmas.List.Elements.{All-weaker}
 use Rattle.call_steps.specs.declared.step.Step.{Step}
 use Rattle.call_steps.specs.declared.step.Step.TheVariants.{Store}
 use Rattle.call_steps.specs.Steps.{applied, IsInside}
 use Rattle.call_steps.specs.StepLaws.{reading, Put, applied-puts}
-use Rattle.heap_words.specs.Layouts.{Sizes, IsRegion, words_of, region_at, first_word}
-use Rattle.object_headers.specs.Changes.{is_clover}
+use Rattle.heap_words.specs.Layouts.{Sizes, IsRegion, words_of, region_at}
+use Rattle.heap_words.specs.PlaceLaws.{words_of-bound}
 use Rattle.space_reclaim.specs.declared.move_job.MoveJob.{MoveJob}
 use Rattle.space_reclaim.specs.declared.region_word.RegionWord.{RegionWord}
 use Rattle.space_reclaim.specs.declared.region_word.RegionWord.TheVariants as regions
+use Rattle.space_reclaim.specs.Plans.{Planned}
 use Rattle.space_reclaim.specs.RegionWords.{IsRegionWord, word_of_region}
 use Rattle.handshakes.specs.Handshakes.{Announced}
-use Rattle.mark_search.specs.DrawLaws.{last_some}
-use Rattle.barriers.specs.Stances.{mark_in}
-use Rattle.barriers.specs.Cycles.{Cycle, IsSet}
+use Rattle.barriers.specs.Cycles.{Cycle}
 use Rattle.barriers.specs.Objects.{AreObjects}
+use Rattle.barriers.specs.Sets.{set}
 use Rattle.barriers.specs.Spaces.{Space}
 use Rattle.barriers.specs.Says.{Notices, Says, put_region}
 use Rattle.barriers.specs.MoveWords.{IsSpare}
-use Rattle.barriers.specs.Rows.{Rows, region_of}
+use Rattle.barriers.specs.Rows.{Rows}
 use Rattle.barriers.specs.Kits.{Kit, Stepping, Laws}
 use Rattle.barriers.proofs.words.RegionStores.{says_region, rows_used}
-use Rattle.barriers.proofs.words.Sets.{set_here, set_else}
-use Rattle.lawful_records.specs.declared.job.TheConstants.{EMPTIED, FILLED}
-use Rattle.lawful_records.specs.declared.stage.Announcement.{Announcement}
-use Rattle.lawful_records.specs.declared.stage.Announcement.TheVariants.{Fix}
+use Rattle.barriers.proofs.words.Sets.{set_cases, set_here, set_else}
 use Rattle.lawful_records.specs.declared.awaited.Awaited.{Awaited}
 use Rattle.lawful_records.specs.declared.stage.Stage.{Stage}
 use Rattle.lawful_records.specs.declared.collector.CollectorMachine.{CollectorMachine}
 use Rattle.lawful_records.specs.declared.collector.CollectorMachine.TheVariants as collector
+use Rattle.lawful_records.specs.declared.records.PassKnown.{PassKnown}
 use Rattle.lawful_records.specs.declared.records.Sealed.{Sealed}
 use Rattle.lawful_records.specs.Frames.{SameRegion}
-use Rattle.lawful_records.specs.Handshakes.{HasDrawn, IsMarked, work_before, IsWork}
-use Rattle.lawful_records.specs.JobStands.{stand_of, IsUnmoved, IsTarget, StandsAt}
-use Rattle.lawful_records.specs.Searches.{SearchStands}
+use Rattle.lawful_records.specs.JobStands.{stand_of, IsUnmoved, AreUnmoved, IsTarget, IsTargetOr, IsMovedBy, StandsAt}
 use Rattle.lawful_records.specs.Cycling.{announced_by, cycle_of}
-use Rattle.lawful_records.specs.Collectors.{mark_word, drawn_of, move_at}
+use Rattle.lawful_records.specs.Collectors.{drawn_of, used_at, target_of, target_at, source_at}
 use Rattle.lawful_records.specs.LawfulRecords.{IsThereSealed, AreSealed, IsPassRecord}
-use Rattle.lawful_records.proofs.JobLaws.{region_there}
+use Rattle.lawful_records.specs.Turns.{collector_asks, sealed_now}
+use Rattle.lawful_records.proofs.JobLaws.{pool_there}
 use Rattle.lawful_records.proofs.frames.SpareStays.{region_low, spare_low}
 use Rattle.lawful_records.proofs.turns.Holding.{objects_region, seen_region}
 use Rattle.lawful_records.proofs.turns.Stepping.{put_alike}
-use Rattle.lawful_records.proofs.collecting.FirstJobs.{IsFirstJob, planned_is, filled_region}
-use Rattle.lawful_records.proofs.collecting.JobBegins.{stand_marked}
-use Rattle.lawful_records.proofs.collecting.Goes.{CollectorStands, CollectorGoes, quiet_passes}
+use Rattle.lawful_records.proofs.collecting.Counted.{keeps_idle}
+use Rattle.lawful_records.proofs.collecting.Goes.{found_in, next_of, CollectorStands, CollectorGoes, quiet_passes}
+use Rattle.lawful_records.proofs.collecting.JobBegins.{forward_to, stand_source, stand_target}
+use Rattle.lawful_records.proofs.collecting.PlanLists.{all_in}
+use Rattle.lawful_records.proofs.collecting.WorkNow.{works_now}
+use Rattle.lawful_records.proofs.collecting.Works.{IsBefore, announced_is, cycle_is, drawn_is, none_sought, source_before, target_before}
 
 -- ---- what does not read what a region is used for
 
 module _ (s : Space) (k : ℕ) (x : RegionWord) where
-  pub sealed_region : (sealed : List Sealed) → AreSealed s sealed → AreSealed (put_region s k x) sealed
+  sealed_region : (sealed : List Sealed) → AreSealed s sealed → AreSealed (put_region s k x) sealed
   sealed_region sealed are = record {
     there = All-weaker (IsThereSealed s) (IsThereSealed (put_region s k x)) (λ one is. record { live = is.live; len = is.len }) sealed are.there;
     seals = are.seals;
   }
 
-  pub unmoved_region : (l : Sizes) (j : MoveJob) → IsUnmoved l s j → IsUnmoved l (put_region s k x) j
+  unmoved_region : (l : Sizes) (j : MoveJob) → IsUnmoved l s j → IsUnmoved l (put_region s k x) j
   unmoved_region l j is = record {
     pool = is.pool;
     room = is.room;
     wide = is.wide;
+    above = is.above;
+    still = is.still;
     len = is.len;
     birth = is.birth;
     header = is.header;
-    place = is.place;
-    none = is.none;
     wideless = is.wideless;
     address = is.address;
+    apart = is.apart;
   }
 
--- a mark other than 0 is one
-mark_set : (mark : ℕ) → 0 < mark → IsSet (mark_in mark)
-mark_set mark some = let counted : (mark == 0) ≡ false = grind (arith, nat_tests, some) in rw counted tt
+  are_unmoved_region : (l : Sizes) (ends : ℕ → ℕ) (jobs : List MoveJob) → AreUnmoved l s ends jobs → AreUnmoved l (put_region s k x) ends jobs
+  are_unmoved_region l ends jobs are = record { each = All-weaker (IsUnmoved l s) (IsUnmoved l (put_region s k x)) (unmoved_region l) jobs are.each; laid = are.laid; after = are.after }
 
-module _ {R W E M : Type 0} (kit : Kit R W E M) (by : Stepping R W E M) (laws : Laws kit by) (l : Sizes) (words : List ℕ) (s : Space) (n : Notices) (counts : Awaited) (sealed : List Sealed) where
+-- a job whose region this is has it as its target then
+target_now : (l : Sizes) (s : Space) (region : ℕ) (j : MoveJob) → IsTargetOr l s region j → IsTarget l (put_region s region regions.Target) j
+target_now l s region j (inl is) = elim (set_cases s.region region (target_of l j) regions.Target) [ inl q ↦ q.1 | inr q ↦ q.1 ∙ is ]
+target_now l s region j (inr same) = ap (set s.region region regions.Target) same ∙ set_here s.region region regions.Target
+
+module _ {R W E M : Type 0} (kit : Kit R W E M) (by : Stepping R W E M) (laws : Laws kit by) (l : Sizes) (words : List ℕ) (plan : Planned) (s : Space) (n : Notices) (counts : Awaited) (sealed : List Sealed) where
   abbrev Stands : CollectorMachine M → Type 0
-  Stands k = CollectorStands kit by l words s n counts sealed k
+  Stands k = CollectorStands kit by l words plan s n counts sealed k
 
   -- the store of a region's word, of which the layout is that of the stage
-  module _ (m : CollectorMachine M) (stands : Stands m) (layout : Sizes) (same : layout ≡ l) (k : ℕ) (low : k < 2) (pool : 2 ≤ l.pool) (x : RegionWord) (used : x ≢ regions.Free) (fits : IsRegionWord x) where
+  module _ (m : CollectorMachine M) (stands : Stands m) (layout : Sizes) (same : layout ≡ l) (k : ℕ) (low : k < l.pool) (x : RegionWord) (used : x ≢ regions.Free) (fits : IsRegionWord x) where
     abbrev t : Space
     t = put_region s k x
 
     abbrev step : Step
-    step = Store (region_at layout k) (word_of_region x)
+    step = Store (used_at layout k) (word_of_region x)
 
     there : IsRegion l k
-    there = region_there l k stands.layout low
+    there = pool_there l k low
+
+    inside : region_at l k < words_of l
+    inside = let is = there in omega (arith, is)
+
+    place : used_at layout k ≡ region_at l k
+    place =
+        let most = words_of-bound l stands.layout in
+        let own : used_at l k ≡ region_at l k = (let is = inside in omega (arith, most, is)) in
+        ap (λ (y : Sizes). used_at y k) same ∙ own
 
     pub store_inside : IsInside (words_of l) step
-    store_inside = let is = there in let place = ap (λ (y : Sizes). region_at y k) same in omega (arith, is, place)
+    store_inside = let is = inside in omega (arith, is, place)
 
     stored : Put (reading words) (reading (applied step words)) (region_at l k) (word_of_region x)
-    stored = put_alike (reading words) (reading (applied step words)) (region_at layout k) (word_of_region x) (region_at l k) (word_of_region x) (ap (λ (y : Sizes). region_at y k) same) refl
+    stored = put_alike (reading words) (reading (applied step words)) (used_at layout k) (word_of_region x) (region_at l k) (word_of_region x) place refl
         (applied-puts step words (λ e. cc e) (subst (λ len. IsInside len step) (sym stands.width) store_inside))
 
-    pub store_says : Says l (reading (applied step words)) t n
+    store_says : Says l (reading (applied step words)) t n
     store_says = says_region l (reading words) s n stands.rows stands.says (reading (applied step words)) k x there fits stored
 
-    pub store_spare : IsSpare l (reading (applied step words)) t
+    store_spare : IsSpare l (reading (applied step words)) t
     store_spare = spare_low l (reading words) (reading (applied step words)) s stands.spare (region_at l k) (word_of_region x) stored (region_low l k there)
 
-    pub store_regions : (region : ℕ) → l.pool ≤ region → SameRegion s t region
-    store_regions region own = record { word = set_else s.region k region x (λ e. omega (arith, e, own, low, pool)); ends = refl }
+    store_regions : (region : ℕ) → l.pool ≤ region → SameRegion s t region
+    store_regions region own = record { word = set_else s.region k region x (λ e. omega (arith, e, own, low)); ends = refl }
 
-  module _ (st : Stage) (job : MoveJob) where
-    first_of : (k : CollectorMachine M) (stands : Stands k) → IsWork l kit.kind stands.cycles (work_before kit.kind) st job → IsFirstJob kit.kind l st.cycle job
-    first_of k stands work = planned_is l kit.kind stands.cycles st job work.stage work.job_is
+    store_rows : Rows l t.state t.len t.ends t.region
+    store_rows = rows_used l s k x used stands.rows
 
-    pub source_goes : Stands (collector.Source st job) → CollectorGoes kit by l words s n sealed (collector.Source st job)
-    source_goes stands =
-        let k : CollectorMachine M = collector.Source st job in
-        let work = stands.collects in
-        let first = first_of k stands work in
-        let same : st.layout ≡ l = work.stage.layout in
-        record {
-          space = put_region s EMPTIED regions.Source;
-          notices = n;
-          says = store_says k stands st.layout same EMPTIED (omega arith) first.pool regions.Source (λ e. cc e) tt;
-          announced = stands.announced;
-          drawn = stands.drawn;
-          spare = store_spare k stands st.layout same EMPTIED (omega arith) first.pool regions.Source (λ e. cc e) tt;
-          rows = rows_used l s EMPTIED regions.Source (λ e. cc e) stands.rows;
-          bare = stands.bare;
-          objects = objects_region kit.protocol _ s EMPTIED regions.Source stands.objects;
-          lens = stands.lens;
-          resting = stands.resting;
-          history = refl;
-          passes = λ p own. quiet_passes kit by l words k s (put_region s EMPTIED regions.Source) n (seen_region kit.protocol _ s EMPTIED regions.Source) (store_regions k stands st.layout same EMPTIED (omega arith) first.pool regions.Source (λ e. cc e) tt) refl p own;
-          job = (unmoved_region s EMPTIED regions.Source l job stands.job.0, stands.job.1);
-          search = tt;
-          sealed_are = subst (AreSealed (put_region s EMPTIED regions.Source)) (sym (append-nil sealed)) (sealed_region s EMPTIED regions.Source sealed stands.sealed_are);
-          only = subst (All (λ (one : Sealed). one.at ≡ first_word l EMPTIED)) (sym (append-nil sealed)) stands.only;
-          heads = λ a. inl refl;
-        }
+    -- after it the work goes on, before the same stage is announced
+    module _ (st : Stage) (its : IsBefore st m) (asks : collector_asks kit by m ≡ step) (sealing : sealed_now kit by m s.history (found_in kit by l words m) ≡ []) (next : IsBefore st (next_of kit by l words plan m)) (idle : (a : ℕ) → IsMovedBy m a → ⊥)
+        (jobs : StandsAt kit l (cycle_of (next_of kit by l words plan m)) t (stand_of plan (next_of kit by l words plan m))) where
+      abbrev after : CollectorMachine M
+      after = next_of kit by l words plan m
 
-    module _ (stands : Stands (collector.Target st job)) where
-      abbrev k : CollectorMachine M
-      k = collector.Target st job
+      same_announced : announced_by after ≡ announced_by m
+      same_announced = announced_is st after next ∙ sym (announced_is st m its)
 
-      abbrev used : Space
-      used = put_region s FILLED regions.Target
+      same_cycle : cycle_of after ≡ cycle_of m
+      same_cycle = cycle_is st after next ∙ sym (cycle_is st m its)
 
-      -- where a mark is sought the move begins, and else the object is tagged
-      abbrev after : Bool → CollectorMachine M
-      after clover = if clover then move_at kit st job else collector.Tag st job
+      same_drawn : drawn_of after ≡ drawn_of m
+      same_drawn = drawn_is st after next ∙ sym (drawn_is st m its)
 
-      same_announced : (clover : Bool) → announced_by (after clover) ≡ announced_by k
-      same_announced true = refl
-      same_announced false = refl
+      quiet : (p : PassKnown R W E) → IsPassRecord kit l (announced_by m) (cycle_of m) s n p → IsPassRecord kit l (announced_by m) (cycle_of m) t n p
+      quiet = quiet_passes kit by l words m s t n (seen_region kit.protocol (cycle_of m) s k x) store_regions refl
 
-      same_cycle : (clover : Bool) → cycle_of (after clover) ≡ cycle_of k
-      same_cycle true = refl
-      same_cycle false = refl
+      pub store_goes : CollectorGoes kit by l words plan s n sealed m
+      store_goes = record {
+        space = t;
+        notices = n;
+        says = subst (λ (asked : Step). Says l (reading (applied asked words)) t n) (sym asks) store_says;
+        announced = stands.announced ∙ sym (ap (λ (a : Announced). a.word) same_announced);
+        drawn = stands.drawn ∙ sym same_drawn;
+        spare = subst (λ (asked : Step). IsSpare l (reading (applied asked words)) t) (sym asks) store_spare;
+        rows = store_rows;
+        bare = stands.bare;
+        objects = subst (λ (d : Cycle). AreObjects kit.protocol d t) (sym same_cycle) (objects_region kit.protocol (cycle_of m) s k x stands.objects);
+        lens = stands.lens;
+        resting = λ a moving. absurd (idle a (stands.resting a moving));
+        history = refl;
+        passes = λ p own. subst (λ (a : Announced). IsPassRecord kit l a (cycle_of after) t n p) (sym same_announced) (subst (λ (d : Cycle). IsPassRecord kit l (announced_by m) d t n p) (sym same_cycle) (quiet p own));
+        jobs = jobs;
+        search = none_sought st l (cycle_of after) t after next;
+        sealed_are = subst (AreSealed t) (sym (ap (λ more. sealed ++ more) sealing ∙ append-nil sealed)) (sealed_region s k x sealed stands.sealed_are);
+        seals = keeps_idle s t m (length (sealed_now kit by m s.history (found_in kit by l words m))) idle;
+        heads = λ a. inl refl;
+      }
 
-      same_drawn : (clover : Bool) → drawn_of (after clover) ≡ drawn_of k
-      same_drawn true = refl
-      same_drawn false = refl
+  -- ---- Source
 
-      no_search : (clover : Bool) → SearchStands l (cycle_of (after clover)) used (after clover)
-      no_search true = tt
-      no_search false = tt
+  module _ (st : Stage) (region next : ℕ) (stands : Stands (collector.Source st region next)) where
+    source_low : region < l.pool
+    source_low = all_in (λ region. region < l.pool) plan.chosen region stands.planned.chosen stands.collects.1
 
-      first : IsFirstJob kit.kind l st.cycle job
-      first = first_of k stands stands.collects
+    pub source_inside : IsInside (words_of l) (Store (used_at st.layout region) (word_of_region regions.Source))
+    source_inside = store_inside (collector.Source st region next) stands st.layout stands.collects.0.stage.layout region source_low regions.Source (λ e. cc e) tt
 
-      abbrev same : st.layout ≡ l
-      same = stands.collects.stage.layout
+    source_stands : StandsAt kit l (cycle_of (source_at kit plan (slice_get plan.chosen next) st next)) (put_region s region regions.Source) (stand_of plan (source_at kit plan (slice_get plan.chosen next) st next))
+    source_stands =
+        let used : Space = put_region s region regions.Source in
+        stand_source kit by laws l stands.layout plan stands.planned used (rows_used l s region regions.Source (λ e. cc e) stands.rows) (forward_to kit.protocol (cycle_of {M = M} (collector.Announce st)) s stands.objects)
+        (slice_get plan.chosen next) st next (works_now kit.kind l stands.cycles st stands.collects.0)
+        (are_unmoved_region s region regions.Source l s.ends plan.jobs stands.jobs.0, stands.jobs.1)
 
-      target : IsTarget l used job
-      target = ap used.region (ap (λ (j : MoveJob). region_of l j.to) first.is ∙ filled_region l) ∙ set_here s.region FILLED regions.Target
+    pub source_goes : CollectorGoes kit by l words plan s n sealed (collector.Source st region next)
+    source_goes = store_goes (collector.Source st region next) stands st.layout stands.collects.0.stage.layout region source_low regions.Source (λ e. cc e) tt
+        st refl refl refl (source_before kit plan st (slice_get plan.chosen next) next) (λ a moved. moved) source_stands
 
-      rows_then : Rows l used.state used.len used.ends used.region
-      rows_then = rows_used l s FILLED regions.Target (λ e. cc e) stands.rows
+  -- ---- Target
 
-      -- the stage after a search that ended clear
-      sought : is_clover kit.kind ≡ true → IsSet (mark_in (mark_word st))
-      sought clover =
-          let fix : st.announcement ≡ Fix = stands.collects.next_is ∙ rw clover refl in
-          let drawn = drawn_by clover (subst (λ (a : Announcement). IsMarked (is_clover kit.kind) a st.cycle st.marks) fix stands.collects.stage.marked) in
-          mark_set (mark_word st) (last_some st.marks.candidates (omega (arith, drawn.first, drawn.some)))
-        where
-          drawn_by : is_clover kit.kind ≡ true → IsMarked (is_clover kit.kind) Fix st.cycle st.marks → HasDrawn st.cycle st.marks
-          drawn_by clover marked = (rw clover at marked).0
+  module _ (st : Stage) (region next : ℕ) (stands : Stands (collector.Target st region next)) where
+    target_low : region < l.pool
+    target_low =
+        let its = stands.collects.1 in
+        let unmoved = all_in (IsUnmoved l s) plan.jobs its.0 stands.jobs.0.each its.1 in
+        let layout = ap (λ (y : Sizes). target_of y its.0) stands.collects.0.stage.layout in
+        subst (λ k. k < l.pool) (sym (its.2 ∙ layout)) unmoved.pool
 
-      stands_then : (clover : Bool) → is_clover st.kind ≡ clover → StandsAt kit l (cycle_of (after clover)) used (stand_of (after clover))
-      stands_then true e =
-          let clover : is_clover kit.kind ≡ true = sym (ap is_clover stands.collects.stage.kind_is) ∙ e in
-          let fix : st.announcement ≡ Fix = stands.collects.next_is ∙ rw clover refl in
-          stand_marked kit by laws l stands.layout used rows_then (cycle_of k) stands.cycles st stands.collects.stage job stands.collects.job_is fix clover (stands.collects.clear clover) (sought clover)
-          (unmoved_region s FILLED regions.Target l job stands.job.0) stands.job.1 target
-      stands_then false e = (unmoved_region s FILLED regions.Target l job stands.job.0, stands.job.1, target)
+    pub target_inside : IsInside (words_of l) (Store (used_at st.layout region) (word_of_region regions.Target))
+    target_inside = store_inside (collector.Target st region next) stands st.layout stands.collects.0.stage.layout region target_low regions.Target (λ e. cc e) tt
 
-      pub target_goes : CollectorGoes kit by l words s n sealed k
-      target_goes =
-          let clover : Bool = is_clover st.kind in
-          let quiet = quiet_passes kit by l words k s used n (seen_region kit.protocol _ s FILLED regions.Target) (store_regions k stands st.layout same FILLED (omega arith) first.pool regions.Target (λ e. cc e) tt) refl in
-          record {
-            space = used;
-            notices = n;
-            says = store_says k stands st.layout same FILLED (omega arith) first.pool regions.Target (λ e. cc e) tt;
-            announced = stands.announced ∙ sym (ap (λ (a : Announced). a.word) (same_announced clover));
-            drawn = stands.drawn ∙ sym (same_drawn clover);
-            spare = store_spare k stands st.layout same FILLED (omega arith) first.pool regions.Target (λ e. cc e) tt;
-            rows = rows_then;
-            bare = stands.bare;
-            objects = subst (λ (d : Cycle). AreObjects kit.protocol d used) (sym (same_cycle clover)) (objects_region kit.protocol _ s FILLED regions.Target stands.objects);
-            lens = stands.lens;
-            resting = λ a moving. absurd (stands.resting a moving);
-            history = refl;
-            passes = λ p own. subst (λ (a : Announced). IsPassRecord kit l a (cycle_of (after clover)) used n p) (sym (same_announced clover)) (subst (λ (d : Cycle). IsPassRecord kit l (announced_by k) d used n p) (sym (same_cycle clover)) (quiet p own));
-            job = stands_then clover refl;
-            search = no_search clover;
-            sealed_are = subst (AreSealed used) (sym (append-nil sealed)) (sealed_region s FILLED regions.Target sealed stands.sealed_are);
-            only = subst (All (λ (one : Sealed). one.at ≡ first_word l EMPTIED)) (sym (append-nil sealed)) stands.only;
-            heads = λ a. inl refl;
-          }
+    target_stands : StandsAt kit l (cycle_of (target_at kit plan (slice_get plan.jobs next) st next)) (put_region s region regions.Target) (stand_of plan (target_at kit plan (slice_get plan.jobs next) st next))
+    target_stands =
+        let used : Space = put_region s region regions.Target in
+        stand_target kit by laws l stands.layout plan stands.planned used (rows_used l s region regions.Target (λ e. cc e) stands.rows) (forward_to kit.protocol (cycle_of {M = M} (collector.Announce st)) s stands.objects)
+        (slice_get plan.jobs next) st next refl (works_now kit.kind l stands.cycles st stands.collects.0)
+        (are_unmoved_region s region regions.Target l s.ends plan.jobs stands.jobs.0, stands.jobs.1)
+        (All-weaker (IsTargetOr l s region) (IsTarget l used) (target_now l s region) (take next plan.jobs) stands.jobs.2)
+
+    pub target_goes : CollectorGoes kit by l words plan s n sealed (collector.Target st region next)
+    target_goes = store_goes (collector.Target st region next) stands st.layout stands.collects.0.stage.layout region target_low regions.Target (λ e. cc e) tt
+        st refl refl refl (target_before kit plan st (slice_get plan.jobs next) next) (λ a moved. moved) target_stands

@@ -1,5 +1,5 @@
 -- The record of a party stays under the turns of others.
-use Rattle.std.proofs.Common.{◌≢◌, ℕ, ◌≤◌, inl, inr, List, length, refl, ap, ◌∙◌, arith}
+use Rattle.std.proofs.Common.{◌≢◌, ℕ, ◌≤◌, inl, inr, List, length, refl, ap, ◌∙◌, arith, ◌≡◌, subst}
 use Rattle.heap_words.specs.Layouts.{Sizes}
 use Rattle.handshakes.specs.Handshakes.{Announced}
 use Rattle.handshakes.specs.Polling.{held_in}
@@ -12,14 +12,15 @@ use Rattle.barriers.specs.Protocols.{Protocol}
 use Rattle.barriers.specs.Kits.{Kit}
 use Rattle.lawful_records.specs.Collectors.{AreEarlier}
 use Rattle.lawful_records.specs.Cycling.{cycle_of}
-use Rattle.lawful_records.specs.Frames.{Grows, SeenBy, Leaves, Beside}
-use Rattle.lawful_records.specs.JobStands.{stand_of}
+use Rattle.lawful_records.specs.Frames.{Grows, SeenBy, Leaves, Beside, Left, Same, Untagged, Born}
+use Rattle.lawful_records.specs.JobStands.{stand_of, StandsAt}
 use Rattle.lawful_records.specs.Searches.{SearchStands}
 use Rattle.lawful_records.specs.LawfulRecords.{IsPassRecord, IsCollectorRecord}
 use Rattle.lawful_records.specs.Making.{lens_of}
 use Rattle.lawful_records.specs.Records.{number_of, side_of, registers_by, room_by, made_by}
 use Rattle.lawful_records.specs.declared.awaited.Awaited.{Awaited}
 use Rattle.lawful_records.specs.declared.collector.CollectorMachine.{CollectorMachine}
+use Rattle.lawful_records.specs.declared.collector.CollectorMachine.TheVariants as collector
 use Rattle.lawful_records.specs.declared.records.PassKnown.{PassKnown}
 use Rattle.lawful_records.specs.declared.records.CollectorKnown.{CollectorKnown}
 use Rattle.lawful_records.proofs.frames.JobStays.{stand_stays}
@@ -27,6 +28,9 @@ use Rattle.lawful_records.proofs.frames.Machines.{good_stays, room_stays, machin
 use Rattle.lawful_records.proofs.frames.SealStays.{sealed_stays}
 use Rattle.lawful_records.proofs.frames.Unborn.{unborn_stays}
 use Rattle.lawful_records.proofs.telling.Telling.{told_grows}
+use Rattle.barriers.specs.States.{IsLive}
+use Rattle.lawful_records.specs.Counts.{HasCounted, unsealed, unsealed_in}
+use Rattle.barriers.proofs.words.Headers.{home_live}
 
 pub seen_same : (P : Protocol) (c : Cycle) (s : Space) → SeenBy P c s s
 seen_same P c s = record { holds = λ birth at is. is; side = λ x is. is; call = λ x k side is. is; heads = λ at live. record { live = live; birth = refl; len = refl; colour = refl } }
@@ -53,12 +57,26 @@ module _ {R W E M : Type 0} (kit : Kit R W E M) where
     cycles = is.cycles;
     few = is.few;
     collects = is.collects;
-    job = stand_stays kit l (cycle_of k) s t leaves beside.seen.heads (stand_of k) is.job;
+    plan = is.plan;
+    jobs = stand_stays kit l (cycle_of k) s t leaves beside.seen.heads (stand_of q.plan k) is.jobs;
     search = search is.search;
     awaited = earlier_later (length s.history) (length t.history) q.awaited (grows_length m s.history t.history beside.history) is.awaited;
+    counted = counted_stays k is.jobs is.counted;
+    fit = is.fit;
     sealed = sealed_stays kit.protocol l s t rows leaves.left beside.seen.heads q.sealed is.sealed;
-    only = is.only;
   }
+    where
+      seal_same : (at : ℕ) → IsLive (s.state at) → Left kit.protocol l s t at → t.seal at ≡ s.seal at
+      seal_same at live (Same same) = same.seal
+      seal_same at live (Untagged makes was is seal wide) = seal
+      seal_same at live (Born was is seal wide own) = absurd (subst IsLive was live)
+
+      counted_stays : (k : CollectorMachine M) → StandsAt kit l (cycle_of k) s (stand_of q.plan k) → HasCounted (unsealed_in s k) k (length q.sealed) → HasCounted (unsealed_in t k) k (length q.sealed)
+      counted_stays (collector.Move st job next m) stands counts =
+          let same = seal_same job.from (home_live (s.state job.from) stands.mover.move.live) (leaves.left job.from) in
+          let left = ap unsealed same in
+          omega (arith, counts, left)
+      counted_stays k stands counts = counts
 
   -- ---- a pass's
 

@@ -5,6 +5,7 @@ use Rattle.std.proofs.lemmas.Bool.{cases_eq, eq-eqb, ne_eqb}
 use Rattle.std.proofs.lemmas.List.Sums.{sum_by-cons, sum_by-append}
 use Rattle.heap_words.specs.Layouts.{Sizes}
 use Rattle.barriers.specs.Kits.{Kit}
+use Rattle.lawful_records.specs.Jobs.{first_plan}
 use Rattle.lawful_records.specs.Collectors.{collector_of, none_awaited}
 use Rattle.lawful_records.specs.LawfulRecords.{is_pass_of, is_collector, AreParties}
 use Rattle.lawful_records.specs.Opening.{opening_passes, opening_pass, opening_parties}
@@ -44,7 +45,7 @@ module _ {R W E M : Type 0} (kit : Kit R W E M) (l : Sizes) where
 
   module _ (cycles salt : ℕ) where
     abbrev last : Party R W E M
-    last = party.Collector (record { machine = collector_of kit l cycles salt; awaited = none_awaited; sealed = [] })
+    last = party.Collector (record { machine = collector_of kit (first_plan kit.kind l) l cycles salt; plan = first_plan kit.kind l; awaited = none_awaited; sealed = [] })
 
     pub opening_counts : AreParties kit l (opening_parties kit l cycles salt)
     opening_counts = record {

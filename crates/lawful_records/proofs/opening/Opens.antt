@@ -6,8 +6,6 @@ use Rattle.std.proofs.lemmas.List.{length-replicate}
 use Rattle.std.proofs.lemmas.List.Elements.{All-nil, All-cons}
 use Rattle.call_steps.specs.StepLaws.{reading}
 use Rattle.heap_words.specs.Layouts.{Sizes, IsLayout, words_of, region_at, first_word}
-use Rattle.lawful_records.specs.declared.job.TheConstants.{EMPTIED}
-use Rattle.lawful_records.specs.declared.records.Sealed.{Sealed}
 use Rattle.object_headers.specs.declared.change.Kind.{Kind}
 use Rattle.space_reclaim.specs.declared.region_word.RegionWord.TheVariants.{Filled}
 use Rattle.space_reclaim.specs.RegionWords.{word_of_region}
@@ -22,6 +20,7 @@ use Rattle.barriers.specs.Stances.{mark_in}
 use Rattle.lawful_records.specs.declared.stage.Announcement.TheVariants.{Mark}
 use Rattle.lawful_records.specs.declared.collector.CollectorMachine.TheVariants as collector
 use Rattle.lawful_records.specs.declared.stage.Stage.{Stage}
+use Rattle.lawful_records.specs.Jobs.{first_plan}
 use Rattle.lawful_records.specs.Collectors.{collector_of, stage_at_start, stage_of, word_of, mark_at, drawn_of, announced_of, none_awaited}
 use Rattle.lawful_records.specs.Cycling.{announced_by, clear_by, cycle_of}
 use Rattle.lawful_records.specs.Searches.{SearchStands}
@@ -33,11 +32,13 @@ use Rattle.lawful_records.specs.declared.collector.CollectorMachine.{CollectorMa
 use Rattle.lawful_records.specs.declared.records.Party.{Party}
 use Rattle.lawful_records.specs.declared.records.Party.TheVariants as party
 use Rattle.lawful_records.proofs.collecting.Announcing.{announced_is}
+use Rattle.lawful_records.proofs.collecting.FirstJobs.{first_is_plan}
 use Rattle.lawful_records.proofs.collecting.Playing.{plays_from_start}
 use Rattle.lawful_records.proofs.opening.Counting.{opening_counts}
 use Rattle.lawful_records.proofs.opening.FirstRecords.{first_record}
 use Rattle.lawful_records.proofs.opening.FirstStand.{stand_at_start}
 use Rattle.lawful_records.proofs.opening.Objects.{opening_lens, opening_resting, opening_objects}
+use Rattle.lawful_records.specs.Counts.{HasCounted, unsealed_in}
 
 -- ---- the announced word
 
@@ -69,7 +70,7 @@ module _ (M : Type 0) (kind : Kind) (l : Sizes) (cycles salt : ℕ) where
   none_from s true = tt
   none_from s false = tt
 
-pub announced_at_start : {R W E M : Type 0} (kit : Kit R W E M) (l : Sizes) (cycles salt : ℕ) → announced_of (collector_of kit l cycles salt) ≡ 0
+pub announced_at_start : {R W E M : Type 0} (kit : Kit R W E M) (l : Sizes) (cycles salt : ℕ) → announced_of (collector_of kit (first_plan kit.kind l) l cycles salt) ≡ 0
 announced_at_start {M = M} kit l cycles salt = ap word_of (stage_from M kit.kind l cycles salt (nat_lt 0 cycles)) ∙ word_at_start kit.kind l cycles salt
 
 -- ---- parties, each of which
@@ -82,13 +83,13 @@ module _ {R W E M : Type 0} (P : Party R W E M → Type 0) (l : Sizes) where
 
 module _ {R W E M : Type 0} (kit : Kit R W E M) (by : Stepping R W E M) (laws : Laws kit by) (l : Sizes) (fits : IsLayout l) (cycles : ℕ) (few : cycles ≤ 64) (salt : ℕ) where
   abbrev k : CollectorMachine M
-  k = collector_of kit l cycles salt
+  k = collector_of kit (first_plan kit.kind l) l cycles salt
 
   abbrev last : Party R W E M
-  last = party.Collector (record { machine = k; awaited = none_awaited; sealed = [] })
+  last = party.Collector (record { machine = k; plan = first_plan kit.kind l; awaited = none_awaited; sealed = [] })
 
   announcement : IsAnnounced kit.minds l (announced_by k) (cycle_of k) (drawn_of k)
-  announcement = announced_is kit.minds l kit.kind cycles few laws.minds k (plays_from_start kit l cycles salt)
+  announcement = announced_is kit.minds l kit.kind cycles few laws.minds (first_plan kit.kind l) k (plays_from_start kit (first_plan kit.kind l) l cycles salt)
 
   none_drawn : drawn_of k ≡ 0
   none_drawn = drawn_from M kit.kind l cycles salt (nat_lt 0 cycles)
@@ -111,6 +112,10 @@ module _ {R W E M : Type 0} (kit : Kit R W E M) (by : Stepping R W E M) (laws : 
     owners = λ i d less. absurd (omega arith);
   }
 
+  counted_from : (more : Bool) → HasCounted (unsealed_in (opening_space l) (first M kit.kind l cycles salt more)) (first M kit.kind l cycles salt more) 0
+  counted_from true = refl
+  counted_from false = tt
+
   -- at the start all is lawful
   pub opens : LawfulRecords kit l (opening_words l) (opening_parties kit l cycles salt)
   opens = record {
@@ -132,5 +137,5 @@ module _ {R W E M : Type 0} (kit : Kit R W E M) (by : Stepping R W E M) (laws : 
     history = history;
     each = all_passes (IsParty kit l k (opening_space l) opening_notices) l 1 l.passes
         (λ pass low high. first_record kit by laws l fits (announced_by k) (cycle_of k) (drawn_of k) announcement (announced_at_start kit l cycles salt) none_marked pass (low, omega (arith, high)))
-        last (record { machine = refl; cycles = cycles; few = few; collects = plays_from_start kit l cycles salt; job = stand_at_start l kit cycles salt; search = none_from M kit.kind l cycles salt (opening_space l) (nat_lt 0 cycles); awaited = record { mark = omega arith; confirm = omega arith; copy = omega arith; fix = omega arith; free = omega arith }; sealed = record { there = All-nil (IsThereSealed (opening_space l)); seals = λ a f live inside. refl }; only = All-nil (λ (one : Sealed). one.at ≡ first_word l EMPTIED) });
+        last (record { machine = refl; cycles = cycles; few = few; plan = first_is_plan l fits kit.kind; collects = plays_from_start kit (first_plan kit.kind l) l cycles salt; jobs = stand_at_start l kit cycles salt; search = none_from M kit.kind l cycles salt (opening_space l) (nat_lt 0 cycles); awaited = record { mark = omega arith; confirm = omega arith; copy = omega arith; fix = omega arith; free = omega arith }; sealed = record { there = All-nil (IsThereSealed (opening_space l)); seals = λ a f live inside. refl }; counted = counted_from (nat_lt 0 cycles); fit = omega arith });
   }

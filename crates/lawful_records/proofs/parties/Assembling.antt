@@ -7,6 +7,7 @@ use Rattle.std.proofs.lemmas.List.Sorted.{All-permutation}
 use Rattle.heap_words.specs.Layouts.{Sizes, words_of}
 use Rattle.heap_history.specs.NewestFirstLaws.{Before-nil}
 use Rattle.call_steps.specs.StepLaws.{reading}
+use Rattle.space_reclaim.specs.Plans.{Planned}
 use Rattle.barriers.specs.Spaces.{Space}
 use Rattle.barriers.specs.Says.{Notices, Says}
 use Rattle.barriers.specs.Rows.{Rows}
@@ -69,11 +70,11 @@ module _ {R W E M : Type 0} (kit : Kit R W E M) where
 
   -- what a turn leaves of how far a collector's search has come
   abbrev pub KeepsSearch : Sizes → CollectorMachine M → Space → Space → Type 0
-  KeepsSearch l k s t = (cycles : ℕ) → cycles ≤ 64 → IsCollector l kit.kind cycles k → SearchStands l (cycle_of k) s k → SearchStands l (cycle_of k) t k
+  KeepsSearch l k s t = (plan : Planned) (cycles : ℕ) → cycles ≤ 64 → IsCollector l kit.kind cycles plan k → SearchStands l (cycle_of k) s k → SearchStands l (cycle_of k) t k
 
   party_stays : (l : Sizes) (k : CollectorMachine M) (m : ℕ) (s t : Space) (n o : Notices) → Rows l t.state t.len t.ends t.region → Beside kit l (cycle_of k) m s t n o → Leaves kit.protocol l (cycle_of k) s t → KeepsSearch l k s t → (r : Party R W E M) → IsOther m r → IsParty kit l k s n r → IsParty kit l k t o r
   party_stays l k m s t n o rows beside leaves search (party.Pass p) other is = pass_stays kit l (announced_by k) (cycle_of k) m s t n o p other beside is
-  party_stays l k m s t n o rows beside leaves search (party.Collector q) other is = collector_stays kit l k m s t n o q rows beside leaves (search is.cycles is.few is.collects) is
+  party_stays l k m s t n o rows beside leaves search (party.Collector q) other is = collector_stays kit l k m s t n o q rows beside leaves (search q.plan is.cycles is.few is.collects) is
 
   -- where one pass moves, the others stay
   pub others_stay : (l : Sizes) (k : CollectorMachine M) (m : ℕ) (s t : Space) (n o : Notices) (others : List (Party R W E M)) → Rows l t.state t.len t.ends t.region → Beside kit l (cycle_of k) m s t n o → Leaves kit.protocol l (cycle_of k) s t → KeepsSearch l k s t → All (IsOther m) others → All (IsParty kit l k s n) others → All (IsParty kit l k t o) others
@@ -178,7 +179,7 @@ module _ {R W E M : Type 0} (kit : Kit R W E M) where
         lens = w.lens;
         beside = beside_same kit l (cycle_of w.collector) (number_of p) w.space w.notices;
         leaves = leaves_same kit.protocol l (cycle_of w.collector) w.space;
-        search = λ cycles few collects stands. stands;
+        search = λ plan cycles few collects stands. stands;
         number = begun.number;
         sees = subst (SeesOn w.space.history w.space.history p.seen) (sym begun.seen) (sees_same w.space.history p.seen its.side.past);
         own = begun.own;

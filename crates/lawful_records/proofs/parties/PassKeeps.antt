@@ -62,7 +62,7 @@ module _ {R W E M : Type 0} (kit : Kit R W E M) (by : Stepping R W E M) (l : Siz
           lens = turn.lens;
           beside = turn.beside;
           leaves = turn.leaves;
-          search = λ cycles few collects stands. search_stays kit minds l w.collector w.space has.space w.notices p turn.leaves turn.beside.seen.heads turn.search own cycles few collects stands;
+          search = λ plan cycles few collects stands. search_stays kit minds l w.collector w.space has.space w.notices p turn.leaves turn.beside.seen.heads turn.search own plan cycles few collects stands;
           number = turn.number;
           sees = sees;
           own = turn.own;
