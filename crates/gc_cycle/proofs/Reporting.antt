@@ -5,12 +5,12 @@ use Rattle.space_reclaim.specs.declared.move_job.MoveJob.{MoveJob}
 use Rattle.barriers.specs.declared.ends.MoveEnd.{MoveEnd}
 use Rattle.cycle_journal.specs.declared.journal.CycleReport.{CycleReport}
 use Rattle.cycle_journal.specs.declared.journal.MarkRow.{MarkRow}
-use Rattle.gc_cycle.specs.Reports.{Reports, AreReports, job_in, mark_in}
+use Rattle.gc_cycle.specs.Reports.{Reports, AreReports, jobs_in, mark_in}
 
-module _ (moved : Option (MoveJob × MoveEnd)) (marks : List MarkRow) where
+module _ (moved : List (MoveJob × MoveEnd)) (marks : List MarkRow) where
   -- the report of the cycle after so many
   abbrev ReportsAt : ℕ → CycleReport → Type 0
-  ReportsAt i report = Reports (i + 1) (job_in (i + 1) moved) (mark_in (i + 1) marks) report
+  ReportsAt i report = Reports (i + 1) (jobs_in (i + 1) moved) (mark_in (i + 1) marks) report
 
   pub no_report : AreReports 0 moved marks []
   no_report = record { many = omega arith; each = λ i d within. absurd (omega (arith, within)) }

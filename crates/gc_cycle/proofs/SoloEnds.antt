@@ -29,6 +29,7 @@ use Rattle.gc_cycle.proofs.solo.Left.{left, command_steps}
 use Rattle.gc_cycle.proofs.solo.SearchEnds.{region_steps}
 use Rattle.gc_cycle.proofs.solo.PlaysAlone.{PlaysAlone}
 use Rattle.gc_cycle.proofs.solo.Turns.{machine_at, left_with, to_do, begins_left}
+use Rattle.lawful_records.specs.Jobs.{first_plan}
 
 -- ---- the number of steps
 
@@ -131,8 +132,8 @@ module _ {R W E M : Type 0} (kit : Kit R W E M) (by : Stepping R W E M) (alone :
 
     all_at_start : all_to_do kit by alone start ≤ enough_steps s
     all_at_start =
-        all_within (sum_by (to_do kit by start) (range_with_len 1 s.layout.passes)) (left_of_collector kit by alone (let w = start in w.collector)) (length s.lines) s.layout.quota s.layout.passes s.cycles (seek_steps s.layout) (words_of s.layout)
-        threads_at_start (left_at_start kit by alone s.layout s.cycles salt) (many_words s.layout (let script = lw.script in script.layout))
+        all_within (sum_by (to_do kit by start) (range_with_len 1 s.layout.passes)) (left_of_collector kit by alone (first_plan kit.kind s.layout) (let w = start in w.collector)) (length s.lines) s.layout.quota s.layout.passes s.cycles (seek_steps s.layout) (words_of s.layout)
+        threads_at_start (left_at_start kit by alone (first_plan kit.kind s.layout) s.layout s.cycles salt) (many_words s.layout (let script = lw.script in script.layout))
 
   -- So many steps are enough.
   pub solo_ends : Laws kit by → (s : Reading) (salt : ℕ) → Lawful kit (opening_state kit s salt) → (steps : ℕ) → enough_steps s ≤ steps → is_over kit by (run_of kit by Solo steps (opening_state kit s salt)) ≡ true

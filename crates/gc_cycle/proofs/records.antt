@@ -3,6 +3,7 @@ pub mod Coming
 pub mod Doing
 pub mod Ends
 pub mod Following
+pub mod Endings
 pub mod Growing
 pub mod Heads
 pub mod Leaving

@@ -1,4 +1,4 @@
--- What a world keeps of how jobs and searches end.
+-- What a world keeps of how searches end.
 use Rattle.std.specs.Prelude.{ℕ, ◌-◌, ◌==◌, if◌then◌else◌, List, Option, Some, None, replicate, slice_set}
 use Rattle.mark_search.specs.declared.seek.MarkFound.{MarkFound as Place}
 use Rattle.mark_search.specs.declared.seek.SeekEnd.{SeekEnd}
@@ -11,11 +11,6 @@ use Rattle.lawful_records.specs.declared.collector.CollectorMachine.{CollectorMa
 use Rattle.lawful_records.specs.declared.collector.CollectorMachine.TheVariants as collector
 use Rattle.lawful_records.specs.declared.stage.Stage.{Stage}
 use Rattle.lawful_records.specs.Collectors.{mark_word, seek_ended}
-
--- what a step has brought, and where it has brought nothing what was there before
-abbrev pub brought : {A : Type 0} → Option A → Option A → Option A
-brought None before = before
-brought (Some a) before = Some a
 
 -- ---- a search that a step has ended
 

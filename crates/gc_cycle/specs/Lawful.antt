@@ -36,9 +36,11 @@ use Rattle.lawful_records.specs.declared.records.Party.{Party}
 use Rattle.lawful_records.specs.declared.records.Party.TheVariants as party
 use Rattle.lawful_records.specs.declared.records.Sealed.{Sealed}
 use Rattle.lawful_records.specs.LawfulRecords.{LawfulRecords}
-use Rattle.gc_cycle.specs.declared.world.SealedAt.{SealedAt}
+use Rattle.gc_cycle.specs.declared.job_log.SealedAt.{SealedAt}
 use Rattle.gc_cycle.specs.Sequels.{read_call, write_call, exchange_call}
 use Rattle.gc_cycle.specs.Worlds.{State, pass_at, changes_now, face_of}
+use Rattle.lawful_records.specs.Jobs.{first_plan}
+use Rattle.lawful_records.specs.Counts.{HasCounted}
 
 -- ---- the records, read off a world
 
@@ -50,10 +52,9 @@ history_in w = reverse (changes_of w.told.log)
 abbrev pub seen_of : List Call → ℕ → List Call
 seen_of h count = drop (length h - count) h
 
--- the object that is sealed, with the changes at its seal
-abbrev pub seals_in : Option SealedAt → List Call → List Sealed
-seals_in None h = []
-seals_in (Some s) h = record { at = s.at; len = s.len; changes = seen_of h s.changes } ∷ []
+-- the objects that are sealed, each with the changes at its seal
+abbrev pub seals_in : List SealedAt → List Call → List Sealed
+seals_in sealed h = map (λ s. record { at = s.at; len = s.len; changes = seen_of h s.changes }) sealed
 
 module _ {R W E M : Type 0} where
   -- what is known of a pass: what it has seen, its own changes, and the calls that it has ended, in what was told
@@ -67,7 +68,7 @@ module _ {R W E M : Type 0} where
 
   -- and of the collector
   abbrev pub collector_in : State R W E M → CollectorKnown M
-  collector_in w = record { machine = w.collector; awaited = w.awaited; sealed = seals_in w.sealed (history_in w) }
+  collector_in w = record { machine = w.collector; plan = w.plan; awaited = w.awaited; sealed = seals_in w.sealed (history_in w) }
 
   abbrev pub records_in : State R W E M → List (Party R W E M)
   records_in w = map (λ p. party.Pass (known_in w p)) w.passes ++ party.Collector (collector_in w) ∷ []
@@ -151,11 +152,18 @@ module _ {R W E M : Type 0} (kit : Kit R W E M) where
   abbrev pub IsThread : State R W E M → ℕ → Type 0
   IsThread w party = IsThreadOf w.layout (thread_of w party) (pass_at w party) (answers_at w.told.answers party) w.told.log
 
-  -- Words and records are lawful, and what is sealed was so after changes that there are; the script is one that is played; what was told is a
-  -- log of the passes' calls; and each thread is where it is.
+  -- what is planned is the plan of the first cycle, of which no more jobs have ended than have begun
+  pub record HasEnded (w : State R W E M) : Type 0 where
+    pub plan : w.plan ≡ first_plan kit.kind w.layout
+    pub counted : HasCounted 1 w.collector (length w.moved)
+    pub fit : length w.moved ≤ (let plan = w.plan in length plan.jobs)
+
+  -- Words and records are lawful, and what is sealed was so after changes that there are; the jobs of the plan end one after another; the
+  -- script is one that is played; what was told is a log of the passes' calls; and each thread is where it is.
   pub record Lawful (w : State R W E M) : Type 0 where
     pub records : LawfulRecords kit w.layout w.words (records_in w)
-    pub sealed : ForSome w.sealed (λ s. s.changes ≤ changes_now w)
+    pub sealed : All (λ s. s.changes ≤ changes_now w) w.sealed
+    pub ended : HasEnded w
     pub script : IsScript w.layout w.commands
     pub passes : length w.passes ≡ w.layout.passes
     pub room : HasRoom w

@@ -6,4 +6,5 @@ pub mod Schedules
 pub mod Sequels
 pub mod Shows
 pub mod Steppings
+pub mod JobLogs
 pub mod Worlds

@@ -1,7 +1,7 @@
 -- A world: some passes over any copier, which play the commands of a script, the collector, and the words on which they step.
 use Rattle.std.specs.Prelude.{◌≢◌, ◌&&◌, not, ℕ, ◌+◌, ◌-◌, ◌<◌, ◌≤◌, ◌^◌, Bool, true, false, nat_lt, if◌then◌else◌, List, [], ◌∷◌, ◌++◌, length, replicate, Option, Some, None, slice_get, slice_set, slice_index_or}
-use Rattle.std.specs.List.{list_all}
-use Rattle.std.specs.Option.{ForSome}
+use Rattle.std.specs.List.{list_all, find}
+use Rattle.std.specs.Option.{ForSome, option_map}
 use Rattle.heap_words.specs.Layouts.{Sizes, words_of, region_at, first_word}
 use Rattle.heap_words.specs.declared.field_word.FieldWord.{FieldWord}
 use Rattle.heap_words.specs.declared.field_word.FieldWord.TheVariants.{Num, Link}
@@ -48,24 +48,28 @@ use Rattle.gc_cycle.specs.declared.sequel.Face.{Face}
 use Rattle.gc_cycle.specs.declared.sequel.InRegister.{InRegister}
 use Rattle.gc_cycle.specs.declared.sequel.Sequel.{Sequel}
 use Rattle.gc_cycle.specs.declared.sequel.Sequel.TheVariants as sequel
-use Rattle.gc_cycle.specs.declared.world.SealedAt.{SealedAt}
+use Rattle.gc_cycle.specs.declared.job_log.SealedAt.{SealedAt}
 use Rattle.gc_cycle.specs.declared.world.Turn.{Turn}
 use Rattle.gc_cycle.specs.declared.world.Turn.TheVariants as turns
-use Rattle.gc_cycle.specs.CycleEnds.{brought, search_ended, finds_after, mark_after, with_mark, nowhere, unmarked_rows}
+use Rattle.gc_cycle.specs.CycleEnds.{search_ended, finds_after, mark_after, with_mark, nowhere, unmarked_rows}
 use Rattle.gc_cycle.specs.Sequels.{sequel_of}
+use Rattle.space_reclaim.specs.Plans.{Planned}
+use Rattle.lawful_records.specs.Jobs.{first_plan}
+use Rattle.gc_cycle.specs.JobLogs.{sealed_after, moved_after}
 
--- the layout, the commands of each thread, the words, the records of the passes in rising number, the collector and how many changes there
--- were when its awaits ended, the object that it sealed last, what the last job ended with, where the candidates of the running search were
--- found, the mark of each cycle, and what there is to tell
+-- the layout, the commands of each thread, the words, the records of the passes in rising number, the collector, what its first cycle moves
+-- and how many changes there were when its awaits ended, the objects that it has sealed, the jobs that have ended and what with, where the
+-- candidates of the running search were found, the mark of each cycle, and what there is to tell
 pub record State (R W E M : Type 0) : Type 0 where
   pub layout : Sizes
   pub commands : List (List Command)
   pub words : List ℕ
   pub passes : List (PassRecord R W E)
   pub collector : CollectorMachine M
+  pub plan : Planned
   pub awaited : Awaited
-  pub sealed : Option SealedAt
-  pub moved : Option (MoveJob × MoveEnd)
+  pub sealed : List SealedAt
+  pub moved : List (MoveJob × MoveEnd)
   pub finds : List MarkFound
   pub marks : List MarkRow
   pub told : Telling
@@ -142,10 +146,13 @@ or_else (Some b) a = b
 
 -- ---- what is sealed
 
+-- the object has a field at this address
+abbrev pub has_word_at : ℕ → SealedAt → Bool
+has_word_at at s = nat_lt s.at at && nat_lt at (s.at + 1 + s.len)
+
 -- how many changes there were at the seal of the object that has a field at this address, if it is sealed
-abbrev pub seal_of : Option SealedAt → ℕ → Option ℕ
-seal_of None at = None
-seal_of (Some s) at = if nat_lt s.at at && nat_lt at (s.at + 1 + s.len) then Some s.changes else None
+abbrev pub seal_of : List SealedAt → ℕ → Option ℕ
+seal_of sealed at = option_map (λ s. s.changes) (find (has_word_at at) sealed)
 
 -- What was seen after a step with this front, where there are so many changes: nothing more; all of them; or those at the seal of the object
 -- at which the step is, and where it is not sealed all.
@@ -153,11 +160,6 @@ abbrev pub seen_with : Front → Option ℕ → ℕ → ℕ → ℕ
 seen_with Stays seal changes seen = seen
 seen_with Now seal changes seen = changes
 seen_with SealedOrNow seal changes seen = or_else seal changes
-
--- after a step that seals the object of this job, if it seals one, where there are so many changes
-abbrev pub sealed_after : Option MoveJob → ℕ → Option SealedAt → Option SealedAt
-sealed_after None changes sealed = sealed
-sealed_after (Some job) changes sealed = Some (record { at = job.from; len = job.len; changes = changes })
 
 -- a machine that asks for this takes no step
 abbrev pub is_ended : Step → Bool
@@ -245,12 +247,12 @@ module _ {R W E M : Type 0} (kit : Kit R W E M) (by : Stepping R W E M) where
 
   -- the world after the collector's step
   abbrev pub collected : State R W E M → State R W E M
-  collected w = let next = collectors.fed_of kit by.move_fed w.collector (collector_found w) in let ended = search_ended w.collector (collector_found w) in record w {
+  collected w = let next = collectors.fed_of kit by.move_fed w.plan w.collector (collector_found w) in let ended = search_ended w.collector (collector_found w) in record w {
     words = applied (collector_asks w) w.words;
     collector = next;
     awaited = awaits_behind w.collector next (changes_now w) w.awaited;
     sealed = sealed_after (seals_of w.collector (collector_asks w) (collector_found w)) (changes_now w) w.sealed;
-    moved = brought (move_ended kit by.move_fed w.collector (collector_found w)) w.moved;
+    moved = moved_after (move_ended kit by.move_fed w.collector (collector_found w)) w.moved;
     finds = finds_after ended w.finds;
     marks = with_mark (mark_after ended (finds_after ended w.finds)) w.marks;
   }
@@ -333,10 +335,11 @@ module _ {R W E M : Type 0} (kit : Kit R W E M) where
     commands = commands_by s.layout.passes s.lines;
     words = opening_words s.layout;
     passes = opening_passes s.layout 1 (commands_by s.layout.passes s.lines);
-    collector = collector_of kit s.layout s.cycles salt;
+    collector = collector_of kit (first_plan kit.kind s.layout) s.layout s.cycles salt;
+    plan = first_plan kit.kind s.layout;
     awaited = none_awaited;
-    sealed = None;
-    moved = None;
+    sealed = [];
+    moved = [];
     finds = nowhere;
     marks = unmarked_rows s.cycles;
     told = opening_telling (commands_by s.layout.passes s.lines);

@@ -4,7 +4,7 @@ ghost use Rattle.std.specs.Prelude.{◌≡◌, ◌≢◌, ◌≤◌, length};
 ghost use Rattle.call_steps.specs.declared.step.Step.TheVariants.{Ended as StepEnded};
 ghost use Rattle.call_steps.specs.Steps.{IsInside, place_of as place_of_step};
 ghost use Rattle.barriers.specs.Records.{IsReady, Fits, started};
-ghost use Rattle.gc_cycle.specs.Worlds.{CanTell, CanConclude, CanSettle, CanTake, IsThere, PutFits, SequelFits, command_at, seal_of as seal_of_address, seen_with as seen_with_of, sealed_after as sealed_after_step, with_put as with_put_of, in_front as in_front_of, face_of, put_pass as put_pass_in, next_request as next_request_in, begun_at, access_begun, answered_with, followed_at, concluded_at, settled_at, asks_at, stepped as stepped_in, taken as taken_in, collector_asks, collected};
+ghost use Rattle.gc_cycle.specs.Worlds.{CanTell, CanConclude, CanSettle, CanTake, IsThere, PutFits, SequelFits, command_at, has_word_at as has_word_at_address, seal_of as seal_of_address, seen_with as seen_with_of, with_put as with_put_of, in_front as in_front_of, face_of, put_pass as put_pass_in, next_request as next_request_in, begun_at, access_begun, answered_with, followed_at, concluded_at, settled_at, asks_at, stepped as stepped_in, taken as taken_in, collector_asks, collected};
 
 mod marking;
 mod opening;
@@ -12,19 +12,17 @@ mod playing;
 mod reporting;
 mod showing;
 
+use crate::job_log::{JobLog, SealedAt};
 use crate::sequel::{Face, InRegister, Sequel, what_follows};
 use crate::stepping::Steps;
 use crate::world::marking::{finds_after, put_mark, search_ended};
-use barriers::{
-    Copier, Front, MachineEnd, MoveEnd, PassRecord, Request, Watched, end_of, start, with_end,
-};
+use barriers::{Copier, Front, MachineEnd, PassRecord, Request, Watched, end_of, start, with_end};
 use call_steps::{Machine, PlainWords, Step};
 use cycle_journal::{CANDIDATES, MarkFound, MarkRow};
 use heap_history::Ended;
 use heap_script::{Answer, Command, Commands, Refusal, Told};
 use heap_words::Layout;
 use lawful_records::{Awaited, CollectorMachine, feed_collector, move_end_of};
-use space_reclaim::MoveJob;
 use std::marker::Model;
 
 /// What a party's turn was.
@@ -38,17 +36,6 @@ pub enum Turn {
     Ended,
 }
 
-/// An object that the collector has sealed: no word of it changes from then on.
-#[derive(Clone, Copy, Debug, PartialEq, Eq)]
-pub struct SealedAt {
-    /// The address of its header.
-    pub at: u32,
-    /// How many fields it has.
-    pub len: u32,
-    /// How many changes there were at its seal.
-    pub changes: u32,
-}
-
 /// The passes of a script, which play its commands, the collector, the words on which they step, and what there is
 /// to tell. The parties are the threads, which count from 1, and after them the collector.
 #[derive(Drop)]
@@ -58,9 +45,8 @@ pub struct World<P: Copier> {
     words: PlainWords,
     passes: Vec<PassRecord<P::Read, P::Write, P::Exchange>>,
     collector: CollectorMachine<P::Move>,
+    jobs: JobLog,
     awaited: Awaited,
-    sealed: Option<SealedAt>,
-    moved: Option<(MoveJob, MoveEnd)>,
     finds: [MarkFound; CANDIDATES],
     marks: Vec<MarkRow>,
     told: Told,
@@ -71,7 +57,7 @@ impl<P: Copier> Model for World<P> {
 
     ghost Value = { State P.Read P.Write P.Exchange P.Move };
 
-    ghost view = { λ w. record { layout = w.layout; commands = w.commands; words = w.words; passes = w.passes.items; collector = w.collector; awaited = w.awaited; sealed = w.sealed; moved = w.moved; finds = w.finds; marks = w.marks.items; told = w.told } };
+    ghost view = { λ w. record { layout = w.layout; commands = w.commands; words = w.words; passes = w.passes.items; collector = w.collector; plan = (let jobs = w.jobs in jobs.plan); awaited = w.awaited; sealed = (let jobs = w.jobs in jobs.sealed); moved = (let jobs = w.jobs in jobs.moved); finds = w.finds; marks = w.marks.items; told = w.told } };
 }
 
 /// The address of the word on which a step is; 0 for `Ended`.
@@ -88,40 +74,32 @@ fn place_of(step: Step) -> u32
     }
 }
 
-/// How many changes there were at the seal of the object that has a field at this address, if it is sealed.
-fn seal_of(sealed: Option<SealedAt>, at: u32) -> Option<u32>
-    ensures { result ≡ seal_of_address sealed at }
+/// Whether the object has a field at this address.
+fn has_word_at(at: u32, object: &SealedAt) -> bool
+    ensures { result ≡ has_word_at_address at object.now }
 {
-    let object = sealed?;
-    if object.at < at && u64::from(at) < u64::from(object.at) + 1 + u64::from(object.len) {
-        Some(object.changes)
-    } else {
-        None
-    }
+    object.at < at && u64::from(at) < u64::from(object.at) + 1 + u64::from(object.len)
 }
 
-/// How many changes a pass has seen after a step with this front, at an object that was sealed after so many.
-fn seen_with(front: Front, seal: Option<u32>, changes: u32, seen: u32) -> u32
-    ensures { result ≡ seen_with_of front seal changes seen }
+/// How many changes there were at the seal of the object that has a field at this address, if it is sealed.
+fn seal_of(sealed: &[SealedAt], at: u32) -> Option<u32>
+    ensures { result ≡ seal_of_address sealed.now at }
+{
+    sealed
+        .iter()
+        .find(|object| has_word_at(at, object))
+        .map(|object| object.changes)
+}
+
+/// How many changes a pass has seen after a step with this front on the word at this address, where these objects are
+/// sealed.
+fn seen_with(front: Front, sealed: &[SealedAt], at: u32, changes: u32, seen: u32) -> u32
+    ensures { result ≡ seen_with_of front (seal_of_address sealed.now at) changes seen }
 {
     match front {
         Front::Stays => seen,
         Front::Now => changes,
-        Front::SealedOrNow => seal.unwrap_or(changes),
-    }
-}
-
-/// What is sealed after a step that seals the object of this job, if it seals one.
-fn sealed_after(job: Option<MoveJob>, changes: u32, sealed: Option<SealedAt>) -> Option<SealedAt>
-    ensures { result ≡ sealed_after_step job changes sealed }
-{
-    match job {
-        None => sealed,
-        Some(job) => Some(SealedAt {
-            at: job.from,
-            len: job.len,
-            changes,
-        }),
+        Front::SealedOrNow => seal_of(sealed, at).unwrap_or(changes),
     }
 }
 
@@ -328,10 +306,16 @@ where
         ensures { self.new ≡ stepped_in P.kit ⟦<P as Steps>⟧.by self.old party }
     {
         let changes = self.told.changes();
-        let seal = seal_of(self.sealed, place_of(step));
         let found = self.words.apply(step);
         let pass = &mut self.passes[party as usize - 1];
-        pass.seen = seen_with(pass.machine.front(found), seal, changes, pass.seen);
+        let front = pass.machine.front(found);
+        pass.seen = seen_with(
+            front,
+            self.jobs.sealed(),
+            place_of(step),
+            changes,
+            pass.seen,
+        );
         pass.machine.feed(found);
     }
 
@@ -351,17 +335,19 @@ where
         requires asked { step ≡ collector_asks P.kit ⟦<P as Steps>⟧.by self.old }
         requires inside { IsInside (length self.old.words) step }
         requires goes_on { step ≢ StepEnded }
+        requires seals { length (let next = collected P.kit ⟦<P as Steps>⟧.by self.old in next.sealed) ≤ (let plan = self.old.plan in length plan.jobs) }
+        requires ends { length (let next = collected P.kit ⟦<P as Steps>⟧.by self.old in next.moved) ≤ (let plan = self.old.plan in length plan.jobs) }
         ensures { self.new ≡ collected P.kit ⟦<P as Steps>⟧.by self.old }
     {
         let changes = self.told.changes();
         let before = self.collector;
         let found = self.words.apply(step);
-        self.sealed = sealed_after(before.sealed(step, found), changes, self.sealed);
-        self.moved = move_end_of::<P>(&before, found).or(self.moved);
+        self.jobs.seal(before.sealed(step, found), changes);
+        self.jobs.end(move_end_of::<P>(&before, found));
         let ended = search_ended(&before, found);
         self.finds = finds_after(&ended, self.finds);
         put_mark(&mut self.marks, &ended, self.finds);
-        feed_collector::<P>(&mut self.collector, found);
+        feed_collector::<P>(&mut self.collector, self.jobs.plan(), found);
         self.awaited = self.awaited.behind(&before, &self.collector, changes);
     }
 }

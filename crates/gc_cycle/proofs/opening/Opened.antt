@@ -1,5 +1,5 @@
 -- The world at the start is lawful.
-use Rattle.std.proofs.Common.{◌≡◌, ℕ, zero, suc, ◌+◌, ◌-◌, ◌<◌, ◌≤◌, Bool, true, List, [], ◌∷◌, ◌++◌, length, get_or, map, drop, refl, sym, ap, ◌∙◌, subst, arith, inl}
+use Rattle.std.proofs.Common.{◌≡◌, ℕ, zero, suc, ◌+◌, ◌-◌, ◌<◌, ◌≤◌, Bool, true, List, [], ◌∷◌, ◌++◌, length, get_or, map, drop, refl, sym, ap, ◌∙◌, subst, arith, inl, false}
 use Rattle.std.specs.Prelude.{nat_lt, if◌then◌else◌}
 use Rattle.std.proofs.lemmas.Bool.Decides.{nat_tests}
 use Rattle.std.proofs.lemmas.List.{length-map}
@@ -32,6 +32,12 @@ use Rattle.gc_cycle.specs.Worlds.{State, nobody, or_else, pass_at, opening_words
 use Rattle.gc_cycle.specs.Lawful.{Lawful, HasRoom, IsScript, IsThread, IsThreadOf, IsAt, known_in, records_in, thread_of}
 use Rattle.gc_cycle.proofs.records.Stepped.{in_pass}
 use Rattle.gc_cycle.proofs.opening.Starts.{known_as, collector_at_start, records_start}
+use Rattle.gc_cycle.specs.declared.job_log.SealedAt.{SealedAt}
+use Rattle.lawful_records.specs.declared.collector.CollectorMachine.TheVariants as collector
+use Rattle.lawful_records.specs.Counts.{HasCounted}
+use Rattle.lawful_records.specs.Jobs.{first_plan}
+use Rattle.lawful_records.specs.Collectors.{collector_of, stage_at_start}
+use Rattle.lawful_records.specs.declared.stage.Announcement.TheVariants.{Mark}
 
 module _ {R W E M : Type 0} (kit : Kit R W E M) where
   -- ---- the passes, and their answers
@@ -144,11 +150,21 @@ module _ {R W E M : Type 0} (kit : Kit R W E M) (by : Stepping R W E M) (laws : 
       subst (λ (rs : List (Party R W E M)). LawfulRecords kit s.layout (opening_words s.layout) (rs ++ collector)) (passes_known kit s salt script (opening_passes kit s.layout 1 lists))
       (records_start kit by laws s.layout lists s.cycles salt script.layout script.threads few)
 
+-- no job has ended
+module _ {R W E M : Type 0} (kit : Kit R W E M) (l : Sizes) (cycles salt : ℕ) where
+  counted_by : (more : Bool) → HasCounted {M = M} 1 (if more then collector.Announce (record (stage_at_start kit.kind l cycles salt) { cycle = 0 + 1; announcement = Mark }) else collector.Done (stage_at_start kit.kind l cycles salt)) 0
+  counted_by true = refl
+  counted_by false = tt
+
+  counted_at_start : HasCounted 1 (collector_of kit (first_plan kit.kind l) l cycles salt) 0
+  counted_at_start = counted_by (nat_lt 0 cycles)
+
 -- The world at the start is lawful.
 pub opening_is_lawful : {R W E M : Type 0} (kit : Kit R W E M) (by : Stepping R W E M) (laws : Laws kit by) (s : Reading) (salt : ℕ) → IsScript s.layout (let w : State R W E M = opening_state kit s salt in w.commands) → s.cycles ≤ 64 → Lawful kit (opening_state kit s salt)
 opening_is_lawful kit by laws s salt script few = record {
   records = records_known kit by laws s salt script few;
-  sealed = λ one is. absurd cc;
+  sealed = All-nil (λ (x : SealedAt). x.changes ≤ 0);
+  ended = record { plan = refl; counted = counted_at_start kit s.layout s.cycles salt; fit = omega arith };
   script = script;
   passes = length-opening_passes kit s.layout 1 (commands_by s.layout.passes s.lines) ∙ script.threads;
   room = has_room kit s salt script;

@@ -18,6 +18,7 @@ use Rattle.lawful_records.specs.declared.records.Party.{Party}
 use Rattle.lawful_records.specs.declared.records.Party.TheVariants as party
 use Rattle.lawful_records.proofs.RecordLaws.{lawful_opens, lawful_regroups, lawful_starts}
 use Rattle.gc_cycle.specs.Worlds.{or_else, opening_words, opening_pass, opening_passes, fresh_pass}
+use Rattle.lawful_records.specs.Jobs.{first_plan}
 
 -- what is known of a pass that has seen no change
 abbrev pub known_as : {R W E : Type 0} → PassRecord R W E → PassKnown R W E
@@ -25,7 +26,7 @@ known_as p = record { pass = p; seen = []; mine = []; ended = [] }
 
 -- a collector before its first step
 abbrev pub collector_at_start : {R W E M : Type 0} → Kit R W E M → Sizes → ℕ → ℕ → Party R W E M
-collector_at_start kit l cycles salt = party.Collector (record { machine = collector_of kit l cycles salt; awaited = none_awaited; sealed = [] })
+collector_at_start kit l cycles salt = party.Collector (record { machine = collector_of kit (first_plan kit.kind l) l cycles salt; plan = first_plan kit.kind l; awaited = none_awaited; sealed = [] })
 
 module _ {R W E M : Type 0} (kit : Kit R W E M) (by : Stepping R W E M) (laws : Laws kit by) (l : Sizes) where
   -- before its first command it polls, and without a command it retires

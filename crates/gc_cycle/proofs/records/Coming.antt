@@ -132,7 +132,7 @@ module _ {R W E M : Type 0} (kit : Kit R W E M) (by : Stepping R W E M) where
     same_pass = number_at kit w lawful number is ∙ sym (view_is kit by laws w lawful number is)
 
     stepped_leaves : Leaves w number words w1 fed None
-    stepped_leaves = record { layout = refl; words = refl; passes = refl; collector = refl; awaited = refl; sealed = refl; log = refl }
+    stepped_leaves = record { layout = refl; words = refl; passes = refl; collector = refl; plan = refl; awaited = refl; sealed = refl; moved = refl; log = refl }
 
     -- its machine goes on
     pub goes_on : ended_of kit (pass_fed kit by p.machine n) ≡ None → Comes kit by w number w1

@@ -24,8 +24,10 @@ pub record Leaves {R W E M : Type 0} (w : State R W E M) (party : ℕ) (after : 
   pub words : next.words ≡ after
   pub passes : next.passes ≡ slice_set w.passes (party - 1) p
   pub collector : next.collector ≡ w.collector
+  pub plan : next.plan ≡ w.plan
   pub awaited : next.awaited ≡ w.awaited
   pub sealed : next.sealed ≡ w.sealed
+  pub moved : next.moved ≡ w.moved
   pub log : (let told = next.told in told.log) ≡ logged (let told = w.told in told.log) call
 
 -- one record set after another
@@ -35,27 +37,29 @@ leaves_after w middle next party words p q call first then = record {
   words = then.words ∙ first.words;
   passes = then.passes ∙ ap (λ ps. slice_set ps (party - 1) q) first.passes ∙ set-set w.passes (party - 1) p q;
   collector = then.collector ∙ first.collector;
+  plan = then.plan ∙ first.plan;
   awaited = then.awaited ∙ first.awaited;
   sealed = then.sealed ∙ first.sealed;
+  moved = then.moved ∙ first.moved;
   log = then.log ∙ ap (λ log. logged log call) first.log;
 }
 
 module _ {R W E M : Type 0} (kit : Kit R W E M) where
   pub put_leaves : (w : State R W E M) (party : ℕ) (p : PassRecord R W E) → Leaves w party w.words (put_pass w party p) p None
-  put_leaves w party p = record { layout = refl; words = refl; passes = refl; collector = refl; awaited = refl; sealed = refl; log = refl }
+  put_leaves w party p = record { layout = refl; words = refl; passes = refl; collector = refl; plan = refl; awaited = refl; sealed = refl; moved = refl; log = refl }
 
   abbrev pub next_of_world : State R W E M → ℕ → Request
   next_of_world w party = next_request w party (answered w party + 1)
 
   begun_leaves : (w : State R W E M) (party : ℕ) (p : PassRecord R W E) (o : Option (PassRecord R W E)) → Leaves w party w.words (access_begun kit w party p o) (or_else o (begun_or kit w.layout p (next_of_world w party))) None
-  begun_leaves w party p None = record { layout = refl; words = refl; passes = refl; collector = refl; awaited = refl; sealed = refl; log = refl }
-  begun_leaves w party p (Some next) = record { layout = refl; words = refl; passes = refl; collector = refl; awaited = refl; sealed = refl; log = refl }
+  begun_leaves w party p None = record { layout = refl; words = refl; passes = refl; collector = refl; plan = refl; awaited = refl; sealed = refl; moved = refl; log = refl }
+  begun_leaves w party p (Some next) = record { layout = refl; words = refl; passes = refl; collector = refl; plan = refl; awaited = refl; sealed = refl; moved = refl; log = refl }
 
   pub followed_leaves : (w : State R W E M) (party : ℕ) (p : PassRecord R W E) (s : Sequel) → Leaves w party w.words (followed_at kit w party p s) (followed_by kit w.layout (next_of_world w party) p s) (called s)
   followed_leaves w party p sequel.Nothing = put_leaves w party p
   followed_leaves w party p (sequel.Starts request) = begun_leaves w party p (started kit w.layout p request)
-  followed_leaves w party p (sequel.Answered put answer ended) = record { layout = refl; words = refl; passes = refl; collector = refl; awaited = refl; sealed = refl; log = refl }
-  followed_leaves w party p (sequel.Retries why) = record { layout = refl; words = refl; passes = refl; collector = refl; awaited = refl; sealed = refl; log = refl }
+  followed_leaves w party p (sequel.Answered put answer ended) = record { layout = refl; words = refl; passes = refl; collector = refl; plan = refl; awaited = refl; sealed = refl; moved = refl; log = refl }
+  followed_leaves w party p (sequel.Retries why) = record { layout = refl; words = refl; passes = refl; collector = refl; plan = refl; awaited = refl; sealed = refl; moved = refl; log = refl }
 
   -- ---- what of the record stays where machines begin
 

@@ -1,6 +1,6 @@
 -- Whoever takes a turn, words and records stay lawful.
 use Rattle.std.specs.Prelude.{◌≢◌, not, nat_lt, IsPermutation, slice_index, if◌then◌else◌}
-use Rattle.std.proofs.Common.{◌≡◌, ℕ, List, [], ◌∷◌, ◌++◌, length, map, Bool, true, false, Some, refl, sym, ap, ◌∙◌, subst}
+use Rattle.std.proofs.Common.{◌≡◌, ℕ, List, [], ◌∷◌, ◌++◌, length, map, Bool, true, false, Some, refl, sym, ap, ◌∙◌, subst, ◌≤◌, arith}
 use Rattle.std.proofs.lemmas.Bool.{ltb-false}
 use Rattle.std.proofs.lemmas.List.Sorted.{IsPermutation-to_front, IsPermutation-sym}
 use Rattle.call_steps.specs.declared.step.Step.{Step}
@@ -20,13 +20,13 @@ use Rattle.lawful_records.specs.declared.collector.CollectorMachine.{CollectorMa
 use Rattle.lawful_records.specs.declared.records.CollectorKnown.{CollectorKnown}
 use Rattle.lawful_records.specs.declared.records.Party.{Party}
 use Rattle.lawful_records.specs.declared.records.Party.TheVariants as parties
-use Rattle.lawful_records.proofs.RecordLaws.{record_keeps, lawful_inside, lawful_regroups, lawful_seals}
+use Rattle.lawful_records.proofs.RecordLaws.{record_keeps, lawful_inside, lawful_regroups, lawful_sealed}
 use Rattle.lawful_records.proofs.parties.Pasts.{history_regroup}
 use Rattle.lawful_records.proofs.parties.Pasts as pasts
 use Rattle.gc_cycle.specs.Lawful.{Lawful, records_in, history_in, collector_in}
 use Rattle.gc_cycle.specs.Worlds.{State, IsParty, asks_at, changes_now, is_ended, taken, collector_asks, collected, turn_of}
 use Rattle.gc_cycle.proofs.records.Coming.{taken_comes}
-use Rattle.gc_cycle.proofs.records.Seals.{seals_after}
+use Rattle.gc_cycle.proofs.records.Seals.{seals_after, length-seals}
 use Rattle.gc_cycle.proofs.records.Shares.{changes_are, history_is}
 use Rattle.gc_cycle.proofs.records.Stepped.{in_pass}
 use Rattle.gc_cycle.proofs.records.Turns.{HasLawful, same_collector, come_records}
@@ -71,19 +71,26 @@ module _ {R W E M : Type 0} (kit : Kit R W E M) (by : Stepping R W E M) (laws : 
       let kept = record_keeps kit by laws w.layout w.words passes (parties.Collector q) before on in
       let found : slice_index w.words (place_of asks) ≡ found_by asks w.words = sym (found_by-step asks w.words on) in
       let all : changes_now w ≡ length (history_in w) = changes_are kit w lawful in
-      let next : CollectorMachine M = collectors.fed_of kit by.move_fed w.collector (found_by asks w.words) in
+      let next : CollectorMachine M = collectors.fed_of kit by.move_fed w.plan w.collector (found_by asks w.words) in
       let turned : CollectorKnown M = collector_in (collected kit by w) in
-      let alone : (job : MoveJob) → seals_of w.collector asks (found_by asks w.words) ≡ Some job → q.sealed ≡ [] =
-      λ job e. lawful_seals kit by laws w.layout w.words passes q before job (ap (λ (n : ℕ). seals_of w.collector asks n) found ∙ e) in
       let is : collector_turned kit by (history_of (parties.Collector q ∷ passes)) q (slice_index w.words (place_of asks)) ≡ turned =
       ap (λ (h : List Call). collector_turned kit by h q (slice_index w.words (place_of asks))) history ∙ ap (λ (n : ℕ). collector_turned kit by (history_in w) q n) found
-      ∙ same_collector next next (collectors.awaits_behind w.collector next (length (history_in w)) w.awaited) (collectors.awaits_behind w.collector next (changes_now w) w.awaited)
+      ∙ same_collector next next w.plan w.plan (collectors.awaits_behind w.collector next (length (history_in w)) w.awaited) (collectors.awaits_behind w.collector next (changes_now w) w.awaited)
       (q.sealed ++ sealed_as (seals_of w.collector asks (found_by asks w.words)) (history_in w)) turned.sealed
-      refl (ap (λ (n : ℕ). collectors.awaits_behind w.collector next n w.awaited) (sym all))
-      (seals_after w.sealed (seals_of w.collector asks (found_by asks w.words)) (history_in w) (changes_now w) all alone) in
+      refl refl (ap (λ (n : ℕ). collectors.awaits_behind w.collector next n w.awaited) (sym all))
+      (seals_after w.sealed (seals_of w.collector asks (found_by asks w.words)) (history_in w) (changes_now w) all) in
       lawful_regroups kit w.layout (applied asks w.words) (parties.Collector turned ∷ passes) (passes ++ parties.Collector turned ∷ [])
       (IsPermutation-sym (passes ++ parties.Collector turned ∷ []) (parties.Collector turned ∷ passes) (IsPermutation-to_front passes (parties.Collector turned)))
       (subst (λ (x : CollectorKnown M). LawfulRecords kit w.layout (applied asks w.words) (parties.Collector x ∷ passes)) is kept)
+
+  -- there is room for what its step seals
+  pub can_seal : asks ≢ Ended → length (let next = collected kit by w in next.sealed) ≤ (let plan = w.plan in length plan.jobs)
+  can_seal on =
+      let next : State R W E M = collected kit by w in
+      let its : CollectorKnown M = collector_in next in
+      let threads : List (Party R W E M) = map (in_pass next) next.passes in
+      let few = lawful_sealed kit by laws next.layout next.words threads its (lawful_regroups kit next.layout next.words (records_in next) (parties.Collector its ∷ threads) (IsPermutation-to_front threads (parties.Collector its)) (collected_records on)) in
+      omega (arith, few, length-seals next.sealed (history_in next))
 
   -- ---- a thread
 

@@ -20,7 +20,7 @@ use Rattle.lawful_records.specs.declared.records.Sealed.{Sealed}
 use Rattle.lawful_records.specs.declared.records.Party.{Party}
 use Rattle.lawful_records.specs.declared.records.Party.TheVariants as parties
 use Rattle.lawful_records.proofs.RecordLaws.{lawful_starts, lawful_regroups}
-use Rattle.gc_cycle.specs.declared.world.SealedAt.{SealedAt}
+use Rattle.gc_cycle.specs.declared.job_log.SealedAt.{SealedAt}
 use Rattle.gc_cycle.specs.Lawful.{Lawful, history_in, records_in, known_in, collector_in, seals_in}
 use Rattle.gc_cycle.specs.Worlds.{State, pass_at, nobody, asks_at}
 use Rattle.gc_cycle.proofs.records.Leaving.{Leaves}
@@ -28,10 +28,11 @@ use Rattle.gc_cycle.proofs.records.Stepped.{in_pass, tail_in, turned_in, sealed_
 use Rattle.gc_cycle.proofs.records.Places.{OneApart, one_apart}
 use Rattle.gc_cycle.proofs.records.Seals.{seals_stay}
 use Rattle.gc_cycle.proofs.records.Shares.{Grown, known_stays}
+use Rattle.space_reclaim.specs.Plans.{Planned}
 
-pub same_collector : {M : Type 0} → (k old_k : CollectorMachine M) (a old_a : Awaited) (s old_s : List Sealed) → k ≡ old_k → a ≡ old_a → s ≡ old_s
-    → Path (CollectorKnown M) (record { machine = k; awaited = a; sealed = s }) (record { machine = old_k; awaited = old_a; sealed = old_s })
-same_collector k old_k a old_a s old_s machine awaited sealed = rw (machine, awaited, sealed) refl
+pub same_collector : {M : Type 0} → (k old_k : CollectorMachine M) (p old_p : Planned) (a old_a : Awaited) (s old_s : List Sealed) → k ≡ old_k → p ≡ old_p → a ≡ old_a → s ≡ old_s
+    → Path (CollectorKnown M) (record { machine = k; plan = p; awaited = a; sealed = s }) (record { machine = old_k; plan = old_p; awaited = old_a; sealed = old_s })
+same_collector k old_k p old_p a old_a s old_s machine plan awaited sealed = rw (machine, plan, awaited, sealed) refl
 
 module _ {R W E M : Type 0} (kit : Kit R W E M) (by : Stepping R W E M) where
   abbrev pub HasLawful : State R W E M → Type 0
@@ -74,8 +75,8 @@ module _ {R W E M : Type 0} (kit : Kit R W E M) (by : Stepping R W E M) where
           let h : List Call = history_in w in
           let history : history_in next ≡ with_change comes.change h = ap (λ (es : List EndedCall). reverse (changes_of es)) leaves.log ∙ comes.grown.history in
           let seals : seals_in next.sealed (history_in next) ≡ seals_in w.sealed h =
-          ap (λ (s : Option SealedAt). seals_in s (history_in next)) leaves.sealed ∙ ap (seals_in w.sealed) history ∙ seals_stay w.sealed comes.change h (sealed_few kit by laws w lawful number is) in
-          let collects : collector_in next ≡ collector_in w = same_collector next.collector w.collector next.awaited w.awaited (seals_in next.sealed (history_in next)) (seals_in w.sealed h) leaves.collector leaves.awaited seals in
+          ap (λ (s : List SealedAt). seals_in s (history_in next)) leaves.sealed ∙ ap (seals_in w.sealed) history ∙ seals_stay w.sealed comes.change h (sealed_few kit by laws w lawful number is) in
+          let collects : collector_in next ≡ collector_in w = same_collector next.collector w.collector next.plan w.plan next.awaited w.awaited (seals_in next.sealed (history_in next)) (seals_in w.sealed h) leaves.collector leaves.plan leaves.awaited seals in
           let as_they_are : (map (in_pass next) (slice_set w.passes (number - 1) comes.pass) ++ tail_in w) ≡ records_in next =
           ap (λ (ps : List (PassRecord R W E)). map (in_pass next) ps ++ tail_in w) (sym leaves.passes) ∙ ap (λ (q : CollectorKnown M). map (in_pass next) next.passes ++ parties.Collector q ∷ []) (sym collects) in
           subst (λ (l : Sizes). LawfulRecords kit l next.words (records_in next)) (sym leaves.layout)

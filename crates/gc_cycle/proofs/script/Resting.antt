@@ -36,7 +36,7 @@ use Rattle.space_reclaim.specs.declared.move_job.MoveJob.{MoveJob}
 use Rattle.barriers.specs.declared.ends.MoveEnd.{MoveEnd}
 use Rattle.cycle_journal.specs.declared.journal.MarkFound.{MarkFound}
 use Rattle.cycle_journal.specs.declared.journal.MarkRow.{MarkRow}
-use Rattle.gc_cycle.specs.declared.world.SealedAt.{SealedAt}
+use Rattle.gc_cycle.specs.declared.job_log.SealedAt.{SealedAt}
 use Rattle.gc_cycle.proofs.records.Seals.{AreFew, few_after}
 use Rattle.gc_cycle.specs.Worlds.{State, pass_at, command_at, changes_now, fed_at, nobody, seal_of, seen_with, is_collector, collector_asks, collector_found, collected}
 use Rattle.gc_cycle.specs.Lawful.{IsAtCommand}
@@ -69,7 +69,7 @@ module _ {R W E M : Type 0} (kit : Kit R W E M) (by : Stepping R W E M) where
   still_retired w party is = still_by w party machine.Retired is (refl, refl, refl)
 
   -- whatever becomes of the words and the collector
-  pub turned_still : (w : State R W E M) → IsScripted kit w → (party : ℕ) → IsStill w party → (words : List ℕ) (collector : CollectorMachine M) (awaited : Awaited) (sealed : Option SealedAt) (moved : Option (MoveJob × MoveEnd)) (finds : List MarkFound) (marks : List MarkRow) → AreFew sealed (changes_now w)
+  pub turned_still : (w : State R W E M) → IsScripted kit w → (party : ℕ) → IsStill w party → (words : List ℕ) (collector : CollectorMachine M) (awaited : Awaited) (sealed : List SealedAt) (moved : List (MoveJob × MoveEnd)) (finds : List MarkFound) (marks : List MarkRow) → AreFew sealed (changes_now w)
       → IsTurned kit by w party (record w { words = words; collector = collector; awaited = awaited; sealed = sealed; moved = moved; finds = finds; marks = marks })
   turned_still w lw party still words collector awaited sealed moved finds marks few = record {
     scripted = record {

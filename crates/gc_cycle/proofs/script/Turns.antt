@@ -24,6 +24,7 @@ use Rattle.gc_cycle.proofs.script.Resting.{still_idle, still_retired, turned_sti
 use Rattle.gc_cycle.proofs.script.Stepped.{has_stepped}
 use Rattle.gc_cycle.proofs.script.Turned.{IsTurned, thread_turn}
 use Rattle.gc_cycle.proofs.script.Worlds.{scripted_of, lawful_of}
+use Rattle.gc_cycle.proofs.records.Endings.{turn_ended}
 
 module _ {R W E M : Type 0} (kit : Kit R W E M) (by : Stepping R W E M) (laws : Laws kit by) (w : State R W E M) (lw : Lawful kit w) (party : ℕ) where
   abbrev Turned : State R W E M → Type 0
@@ -91,4 +92,4 @@ module _ {R W E M : Type 0} (kit : Kit R W E M) (by : Stepping R W E M) (laws : 
 
   -- with lawful records the world is lawful again
   pub turn_lawful : IsParty w.layout party → (let new = turn_of kit by w party in LawfulRecords kit new.layout new.words (records_in new)) → Lawful kit (turn_of kit by w party)
-  turn_lawful is records = let turned = script_turn is in lawful_of kit (turn_of kit by w party) records turned.scripted
+  turn_lawful is records = let turned = script_turn is in lawful_of kit (turn_of kit by w party) records (turn_ended kit by laws w lw party is) turned.scripted

@@ -14,7 +14,7 @@ use Rattle.barriers.specs.declared.pass.PassRecord.{PassRecord}
 use Rattle.barriers.specs.Kits.{Kit}
 use Rattle.lawful_records.specs.LawfulRecords.{LawfulRecords}
 use Rattle.gc_cycle.specs.Worlds.{State, pass_at, changes_now, logged, nobody}
-use Rattle.gc_cycle.specs.Lawful.{Lawful, IsScript, HasRoom, IsThread, IsThreadOf, records_in, thread_of}
+use Rattle.gc_cycle.specs.Lawful.{Lawful, IsScript, HasRoom, IsThread, IsThreadOf, records_in, thread_of, HasEnded}
 use Rattle.gc_cycle.proofs.records.Seals.{AreFew, few_later}
 use Rattle.gc_cycle.proofs.script.Lists.{sum_by-set, set_here, set_there}
 use Rattle.gc_cycle.proofs.script.Threads.{IsOf, thread_stays, owners_grow}
@@ -40,8 +40,8 @@ module _ {R W E M : Type 0} (kit : Kit R W E M) where
     pub sealed : AreFew w.sealed (changes_now w)
 
   -- the rest is its records'
-  pub lawful_of : (w : State R W E M) → LawfulRecords kit w.layout w.words (records_in w) → IsScripted w → Lawful kit w
-  lawful_of w records is = record { records = records; sealed = is.sealed; script = is.script; passes = is.passes; room = is.room; log = is.log; owners = is.owners; threads = is.threads }
+  pub lawful_of : (w : State R W E M) → LawfulRecords kit w.layout w.words (records_in w) → HasEnded kit w → IsScripted w → Lawful kit w
+  lawful_of w records ended is = record { records = records; sealed = is.sealed; ended = ended; script = is.script; passes = is.passes; room = is.room; log = is.log; owners = is.owners; threads = is.threads }
 
   pub scripted_of : (w : State R W E M) → Lawful kit w → IsScripted w
   scripted_of w lw = record { script = lw.script; passes = lw.passes; room = lw.room; log = lw.log; owners = lw.owners; threads = lw.threads; sealed = lw.sealed }

@@ -33,12 +33,14 @@ use Rattle.gc_cycle.proofs.Acknowledging.{collector_record, acknowledged}
 use Rattle.gc_cycle.proofs.Running.{ready_is_party}
 use Rattle.gc_cycle.proofs.Playing.{is_ended-true, is_ended-false}
 use Rattle.gc_cycle.proofs.AllowedAnswers.{ready_if, ready_is, thread_steps, some_are}
-use Rattle.gc_cycle.proofs.solo.CollectorEnds.{left_of_collector, MovesAlone, Falls, collector_falls, alone_at_start}
+use Rattle.gc_cycle.proofs.solo.CollectorEnds.{left_of_collector, MovesAlone, Falls, collector_falls, alone_at_start, IsSmall, first_small}
 use Rattle.gc_cycle.proofs.solo.Finding.{collector_finds}
 use Rattle.gc_cycle.proofs.solo.Left.{left, StandsAlone, asks}
 use Rattle.gc_cycle.proofs.solo.PlaysAlone.{PlaysAlone}
 use Rattle.gc_cycle.proofs.solo.Standing.{none_marked, unhindered}
 use Rattle.gc_cycle.proofs.solo.Turns.{machine_at, left_with, to_do, Goes, turn_goes}
+use Rattle.lawful_records.specs.Jobs.{first_plan}
+use Rattle.space_reclaim.specs.Plans.{Planned}
 
 -- ---- numbers, tests and steps
 
@@ -63,7 +65,7 @@ ended_or_on steps.Ended = inl refl
 module _ {R W E M : Type 0} (kit : Kit R W E M) (by : Stepping R W E M) (alone : PlaysAlone kit by) where
   -- until all parties have ended
   abbrev pub all_to_do : State R W E M → ℕ
-  all_to_do w = sum_by (to_do kit by w) (range_with_len 1 w.layout.passes) + left_of_collector kit by alone w.collector
+  all_to_do w = sum_by (to_do kit by w) (range_with_len 1 w.layout.passes) + left_of_collector kit by alone (first_plan kit.kind w.layout) w.collector
 
   abbrev pub ready : State R W E M → List ℕ
   ready w = ready_of kit by w
@@ -140,7 +142,7 @@ module _ {R W E M : Type 0} (kit : Kit R W E M) (by : Stepping R W E M) (alone :
   -- the collector has not begun, or all threads have ended and nobody has raced its move
   abbrev pub IsCollectorAlone : ℕ → ℕ → State R W E M → Type 0
   IsCollectorAlone cycles salt w =
-      (w.collector ≡ collector_of kit w.layout cycles salt) ⊎ (((q : ℕ) → IsPass w.layout q → has_ended w q ≡ true) × MovesAlone kit by alone (reading w.words) w.collector)
+      (w.collector ≡ collector_of kit w.plan w.layout cycles salt) ⊎ (((q : ℕ) → IsPass w.layout q → has_ended w q ≡ true) × MovesAlone kit by alone (reading w.words) w.collector)
 
   -- No thread but the lowest that can step is in a call that writes; and as long as a thread runs, the collector has not begun.
   pub record IsSolo (cycles salt : ℕ) (w : State R W E M) : Type 0 where
@@ -184,7 +186,7 @@ module _ {R W E M : Type 0} (kit : Kit R W E M) (by : Stepping R W E M) (alone :
       runs = thread_runs w first is_pass among
 
       -- the collector has not begun
-      waits : w.collector ≡ collector_of kit w.layout cycles salt
+      waits : w.collector ≡ collector_of kit w.plan w.layout cycles salt
       waits = elim solo.collector [ inl start ↦ start | inr idle ↦ absurd (cc (idle.0 first is_pass, runs)) ]
 
       goes : Goes kit by alone w first (left kit by w.layout.quota (machine_at w first)) new
@@ -259,12 +261,14 @@ module _ {R W E M : Type 0} (kit : Kit R W E M) (by : Stepping R W E M) (alone :
       thread_less =
           let same : sum_by (to_do kit by new) (range_with_len 1 new.layout.passes) ≡ sum_by (to_do kit by new) (range_with_len 1 w.layout.passes) =
           ap (λ (l : Sizes). sum_by (to_do kit by new) (range_with_len 1 l.passes)) goes.layout in
-          omega (arith, same, threads_less, ap (left_of_collector kit by alone) goes.collector)
+          let left = ap (left_of_collector kit by alone (first_plan kit.kind new.layout)) goes.collector in
+          let plan = ap (λ (l : Sizes). left_of_collector kit by alone (first_plan kit.kind l) w.collector) goes.layout in
+          omega (arith, same, threads_less, left, plan)
 
       thread_next : Next cycles salt w (turn w first)
       thread_next =
           subst (Next cycles salt w) (sym (turn_takes w first can (le-ltb w.layout.passes first is_pass.1))) (record {
-            solo = record { threads = each_alone; collector = inl (goes.collector ∙ waits ∙ ap (λ (l : Sizes). collector_of kit l cycles salt) (sym goes.layout)) };
+            solo = record { threads = each_alone; collector = inl (goes.collector ∙ waits ∙ ap (λ (l : Sizes). collector_of kit w.plan l cycles salt) (sym goes.layout)) };
             less = thread_less;
           })
 
@@ -297,18 +301,24 @@ module _ {R W E M : Type 0} (kit : Kit R W E M) (by : Stepping R W E M) (alone :
       -- nobody has raced its move
       moves_alone : MovesAlone kit by alone (reading w.words) w.collector
       moves_alone = elim solo.collector [
-        | inl start ↦ subst (MovesAlone kit by alone (reading w.words)) (sym start) (alone_at_start kit by alone (reading w.words) w.layout cycles salt)
+        | inl start ↦ subst (MovesAlone kit by alone (reading w.words)) (sym start) (alone_at_start kit by alone w.plan (reading w.words) w.layout cycles salt)
         | inr idle ↦ idle.1
       ]
 
-      falls : Falls kit by alone w.layout lw.records.layout (let its = collector_record kit w lw in its.cycles) w.words acks_ended w.collector
+      small : IsSmall w.plan
+      small = subst IsSmall (sym lw.ended.plan) (first_small kit.kind w.layout lw.records.layout)
+
+      falls : Falls kit by alone w.plan small w.layout lw.records.layout (let its = collector_record kit w lw in its.cycles) w.words acks_ended w.collector
       falls =
           let its = collector_record kit w lw in
-          let plays = subst (λ k. IsCollector w.layout kit.kind its.cycles k) (sym its.machine) its.collects in
-          collector_falls kit by alone w.layout lw.records.layout its.cycles w.words acks_ended w.collector plays collector_on (collector_finds kit by laws w lw) moves_alone
+          let plays = subst (λ k. IsCollector w.layout kit.kind its.cycles w.plan k) (sym its.machine) its.collects in
+          collector_falls kit by alone w.plan small w.layout lw.records.layout its.cycles w.words acks_ended w.collector plays collector_on (collector_finds kit by laws w lw) moves_alone
 
       collector_less : all_to_do (collected kit by w) < all_to_do w
-      collector_less = omega (arith, falls.0)
+      collector_less =
+          let before = ap (λ (plan : Planned). left_of_collector kit by alone plan w.collector) lw.ended.plan in
+          let after = ap (λ (plan : Planned). left_of_collector kit by alone plan (let new = collected kit by w in new.collector)) lw.ended.plan in
+          omega (arith, falls.0, before, after)
 
       collector_next : Next cycles salt w (turn w first)
       collector_next = subst (Next cycles salt w) (sym (turn_collects w first can collects)) (record {

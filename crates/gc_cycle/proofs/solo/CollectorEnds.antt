@@ -1,7 +1,7 @@
 -- Where all threads have ended, the collector ends with an announcement and a look at each pass for each of the five announcements of each
 -- cycle that is left, and with the steps of the job and of the searches of each.
-use Rattle.std.proofs.Common.{◌≡◌, ◌≢◌, ℕ, ◌+◌, ◌-◌, ◌*◌, ◌<◌, ◌≤◌, ◌==◌, Bool, true, false, List, Option, Some, None, refl, sym, ap, subst, arith}
-use Rattle.std.specs.Prelude.{nat_lt, if◌then◌else◌}
+use Rattle.std.proofs.Common.{◌≡◌, ◌≢◌, ℕ, ◌+◌, ◌-◌, ◌*◌, ◌<◌, ◌≤◌, ◌==◌, Bool, true, false, List, Option, Some, None, refl, sym, ap, subst, arith, length, get_or, [], ◌∷◌, ◌∙◌}
+use Rattle.std.specs.Prelude.{nat_lt, if◌then◌else◌, drop}
 use Rattle.std.proofs.Math.Nat.{mul-le-mul_right}
 use Rattle.std.proofs.lemmas.Bool.Decides.{nat_tests}
 use Rattle.std.proofs.lemmas.Bool.{eq-eqb}
@@ -27,22 +27,29 @@ use Rattle.lawful_records.specs.declared.stage.Announcement.TheVariants.{Mark, C
 use Rattle.lawful_records.specs.declared.stage.Stage.{Stage}
 use Rattle.lawful_records.specs.declared.collector.CollectorMachine.{CollectorMachine}
 use Rattle.lawful_records.specs.declared.collector.CollectorMachine.TheVariants as collector
-use Rattle.lawful_records.specs.Collectors.{word_of, mark_word, planned, asks_of, fed_of, look, looked, awaited, announce, searched, seek_at, sought, to_tag, to_fix, move_at, behind_by, moved_by, stage_at_start, collector_of, passed_of}
-use Rattle.lawful_records.specs.Handshakes.{IsCollector, IsAwait, IsSeek, IsWork}
+use Rattle.lawful_records.specs.Collectors.{word_of, mark_word, is_planned, target_of, asks_of, fed_of, look, looked, awaited, announce, searched, seek_at, sought, tag_at, move_at, target_at, source_at, work_at, moves_at, behind_by, moved_by, stage_at_start, collector_of, passed_of}
+use Rattle.lawful_records.specs.Handshakes.{IsCollector, IsAwait, IsSeek}
 use Rattle.lawful_records.specs.declared.stage.TheConstants.{SEARCHES}
-use Rattle.lawful_records.specs.declared.job.TheConstants.{FILLED}
+use Rattle.lawful_records.specs.declared.job.TheConstants.{EMPTIED, FILLED}
 use Rattle.lawful_records.specs.Cycling.{announced_by}
-use Rattle.lawful_records.specs.Jobs.{wide_for, first_job}
-use Rattle.lawful_records.proofs.collecting.FirstJobs.{first_job_is, is_job}
+use Rattle.lawful_records.specs.Jobs.{wide_for, has_job, first_job, first_plan}
+use Rattle.lawful_records.proofs.collecting.FirstJobs.{is_job}
+use Rattle.lawful_records.proofs.collecting.PlanLists.{at_is, all_in, drop_some}
 use Rattle.call_steps.specs.declared.step.Step.TheVariants.{Ended}
 use Rattle.gc_cycle.proofs.solo.CycleSteps.{after_in, work_steps, job_steps, cycles_after, steps_each, search_steps, said_after, rest_after, searches_after, onward_left, left_after, says_next, says_after, at_most, none_of, fewer_searches, searches_next}
 use Rattle.gc_cycle.proofs.solo.Finding.{CollectorFinds}
 use Rattle.gc_cycle.proofs.solo.SearchEnds.{seek_left, seek_falls}
 use Rattle.gc_cycle.proofs.solo.PlaysAlone.{most_move_steps, HasPlace, PlaysAlone}
+use Rattle.std.specs.List.{All, slice_get, prefix_len}
+use Rattle.space_reclaim.specs.Plans.{Planned}
+use Rattle.std.proofs.lemmas.List.{length-drop}
+use Rattle.std.proofs.lemmas.List.Elements.{All-nil, All-cons}
+use Rattle.std.proofs.lemmas.List.Sums.{prefix_len-drop_yes}
+use Rattle.std.proofs.lemmas.Option.{slice_get_within}
 
 -- ---- jobs
 
--- the job that a stage's cycle has is one, whose copy has a place of its own
+-- the job of the first cycle is one whose copy has a place of its own
 apart_from_wide : (kind : Kind) (l : Sizes) → IsLayout l → first_word l FILLED ≢ wide_for kind l
 apart_from_wide kinds.Stopless l fits same = let own : 1 * l.quota ≤ l.passes * l.quota = mul-le-mul_right l.quota fits.passes.0 in omega (arith, same, own, fits.quota.0, fits.pool.0)
 apart_from_wide kinds.Chicken l fits same = omega (arith, same)
@@ -52,10 +59,29 @@ apart_from_wide kinds.Clover l fits same = omega (arith, same)
 first_has_place : (kind : Kind) (l : Sizes) → IsLayout l → HasPlace (first_job kind l)
 first_has_place kind l fits = record { job = is_job l fits kind; from = λ same. omega (arith, same); wide = apart_from_wide kind l fits }
 
-job_planned : (s : Stage) (job : MoveJob) → IsLayout s.layout → planned s ≡ Some job → HasPlace job
-job_planned s job fits e = let first = first_job_is s.kind s.layout s.cycle job e in subst HasPlace (sym first.is) (first_has_place s.kind s.layout fits)
+-- a plan whose work takes so many steps at most before an announcement
+pub record IsSmall (plan : Planned) : Type 0 where
+  pub steps : length plan.chosen + (length plan.jobs + length plan.jobs * (1 + most_move_steps)) ≤ work_steps
+  pub places : All HasPlace plan.jobs
+
+pub first_small : (kind : Kind) (l : Sizes) → IsLayout l → IsSmall (first_plan kind l)
+first_small kind l fits = record { steps = steps_by (has_job kind l); places = places_by (has_job kind l) }
+  where
+    steps_by : (has : Bool) → length (if has then EMPTIED ∷ [] else []) + (length (if has then first_job kind l ∷ [] else []) + length (if has then first_job kind l ∷ [] else []) * (1 + most_move_steps)) ≤ work_steps
+    steps_by true = omega arith
+    steps_by false = omega arith
+
+    places_by : (has : Bool) → All HasPlace (if has then first_job kind l ∷ [] else [])
+    places_by true = All-cons HasPlace (first_job kind l) [] (first_has_place kind l fits) (All-nil HasPlace)
+    places_by false = All-nil HasPlace
 
 module _ {R W E M : Type 0} (kit : Kit R W E M) (by : Stepping R W E M) (alone : PlaysAlone kit by) where
+  -- what is known of memory and of its mover
+  abbrev pub MovesAlone : (ℕ → ℕ) → CollectorMachine M → Type 0
+  MovesAlone memory (collector.Move s job next m) = alone.MoveAlone memory m
+  MovesAlone memory k = Unit {0}
+
+module _ {R W E M : Type 0} (kit : Kit R W E M) (by : Stepping R W E M) (alone : PlaysAlone kit by) (plan : Planned) where
   -- from an announcement on
   abbrev announced_left : Stage → ℕ
   announced_left s = steps_each s + left_after s.announcement s
@@ -66,20 +92,67 @@ module _ {R W E M : Type 0} (kit : Kit R W E M) (by : Stepping R W E M) (alone :
   left_of_collector (collector.Await s pass m) = steps_each s - pass + left_after s.announcement s
   left_of_collector (collector.Draw s) = 1 + announced_left s
   left_of_collector (collector.Seek s m) = seek_left m + onward_left Search s
-  left_of_collector (collector.Source s job) = work_steps + announced_left s
-  left_of_collector (collector.Target s job) = 2 + most_move_steps + announced_left s
-  left_of_collector (collector.Tag s job) = 1 + announced_left s
-  left_of_collector (collector.Move s job m) = alone.move_left m + announced_left s
+  left_of_collector (collector.Source s region next) = 1 + length (drop next plan.chosen) + (length plan.jobs + length plan.jobs * (1 + most_move_steps)) + announced_left s
+  left_of_collector (collector.Target s region next) = 1 + length (drop next plan.jobs) + length plan.jobs * (1 + most_move_steps) + announced_left s
+  left_of_collector (collector.Tag s job next) = 1 + length (drop next plan.jobs) + announced_left s
+  left_of_collector (collector.Move s job next m) = alone.move_left m + length (drop next plan.jobs) * most_move_steps + announced_left s
   left_of_collector (collector.Done s) = 0
-
-  -- what is known of memory and of its mover
-  abbrev pub MovesAlone : (ℕ → ℕ) → CollectorMachine M → Type 0
-  MovesAlone memory (collector.Move s job m) = alone.MoveAlone memory m
-  MovesAlone memory k = Unit {0}
 
   -- it has fewer steps left than before
   abbrev FallsTo : ℕ → (ℕ → ℕ) → CollectorMachine M → Type 0
-  FallsTo before memory k = (left_of_collector k < before) × MovesAlone memory k
+  FallsTo before memory k = (left_of_collector k < before) × MovesAlone kit by alone memory k
+
+  abbrev AtMost : ℕ → (ℕ → ℕ) → CollectorMachine M → Type 0
+  AtMost most memory k = (left_of_collector k ≤ most) × MovesAlone kit by alone memory k
+
+  -- ---- the work on the plan
+
+  -- one of the rest is done
+  one_less : {X : Type 0} (xs : List X) (at : ℕ) (x : X) → slice_get xs at ≡ Some x → length (drop at xs) ≡ 1 + length (drop (at + 1) xs)
+  one_less xs at x e = let same = ap (λ ys. length ys) (drop_some xs at x e) in omega (arith, same)
+
+  module _ (small : IsSmall plan) (memory : ℕ → ℕ) (s : Stage) where
+    move_most : (o : Option MoveJob) (at : ℕ) → slice_get plan.jobs at ≡ o → AtMost (length (drop at plan.jobs) * most_move_steps + announced_left s) memory (move_at kit o s at)
+    move_most None at e = (omega arith, tt)
+    move_most (Some job) at e =
+        let place = all_in HasPlace plan.jobs job small.places (at, e) in
+        let few = alone.move_few s.layout job (mark_word s) place in
+        (omega (arith, few, one_less plan.jobs at job e), alone.move_first memory s.layout job (mark_word s) place)
+
+    tag_most : (o : Option MoveJob) (at : ℕ) → slice_get plan.jobs at ≡ o → AtMost (length (drop at plan.jobs) + announced_left s) memory (tag_at o s at)
+    tag_most None at e = (omega arith, tt)
+    tag_most (Some job) at e = (omega (arith, one_less plan.jobs at job e), tt)
+
+    targeted_most : (b : Bool) → AtMost (length plan.jobs * (1 + most_move_steps) + announced_left s) memory (if b then move_at kit (slice_get plan.jobs 0) s 0 else tag_at (slice_get plan.jobs 0) s 0)
+    targeted_most true = let most = move_most (slice_get plan.jobs 0) 0 refl in (omega (arith, most.0), most.1)
+    targeted_most false = let most = tag_most (slice_get plan.jobs 0) 0 refl in (omega (arith, most.0), most.1)
+
+    target_most : (o : Option MoveJob) (at : ℕ) → slice_get plan.jobs at ≡ o → AtMost (length (drop at plan.jobs) + length plan.jobs * (1 + most_move_steps) + announced_left s) memory (target_at kit plan o s at)
+    target_most None at e = let most = targeted_most (is_clover s.kind) in (omega (arith, most.0), most.1)
+    target_most (Some job) at e =
+        let test : MoveJob → Bool = λ j. target_of s.layout j == target_of s.layout job in
+        let inside = slice_get_within plan.jobs at job e in
+        let here : test (get_or plan.jobs at job) ≡ true = ap test (at_is plan.jobs at job job e) ∙ eq-eqb (target_of s.layout job) (target_of s.layout job) refl in
+        let some = prefix_len-drop_yes test plan.jobs at job inside here in
+        (omega (arith, some, inside, length-drop at plan.jobs, length-drop (at + prefix_len test (drop at plan.jobs)) plan.jobs), tt)
+
+    source_most : (o : Option ℕ) (at : ℕ) → slice_get plan.chosen at ≡ o → AtMost (length (drop at plan.chosen) + (length plan.jobs + length plan.jobs * (1 + most_move_steps)) + announced_left s) memory (source_at kit plan o s at)
+    source_most None at e = let most = target_most (slice_get plan.jobs 0) 0 refl in (omega (arith, most.0), most.1)
+    source_most (Some region) at e = (omega (arith, one_less plan.chosen at region e), tt)
+
+    work_by : (b : Bool) → AtMost (work_steps + announced_left s) memory (if b then source_at kit plan (slice_get plan.chosen 0) s 0 else collector.Announce s)
+    work_by true = let most = source_most (slice_get plan.chosen 0) 0 refl in (omega (arith, most.0, small.steps), most.1)
+    work_by false = (omega arith, tt)
+
+    work_most : AtMost (work_steps + announced_left s) memory (work_at kit plan s)
+    work_most = work_by (is_planned s)
+
+    moves_by : (b : Bool) → AtMost (work_steps + announced_left s) memory (if b then move_at kit (slice_get plan.jobs 0) s 0 else collector.Announce s)
+    moves_by true = let most = move_most (slice_get plan.jobs 0) 0 refl in (omega (arith, most.0, small.steps), most.1)
+    moves_by false = (omega arith, tt)
+
+    moves_most : AtMost (work_steps + announced_left s) memory (moves_at kit plan s)
+    moves_most = moves_by (is_planned s)
 
   -- ---- what comes after a stage
 
@@ -100,14 +173,9 @@ module _ {R W E M : Type 0} (kit : Kit R W E M) (by : Stepping R W E M) (alone :
       let fewer = fewer_searches 0 SEARCHES (cycles_after s) (search_steps s.layout) (omega arith) in
       says_after (3 + 5 * cycles_after s) (2 + 5 * cycles_after s) (steps_each s) (rest_after Confirm s) (rest_after Copy s) work_steps (omega arith) (omega (arith, fewer))
 
-  left_to_tag : (s : Stage) (job : Option MoveJob) → left_of_collector (to_tag job s) ≤ left_after Confirm s
-  left_to_tag s None = none_of work_steps (announced_left (record s { announcement = Copy })) (left_after Confirm s) (says_copy s)
-  left_to_tag s (Some job) = says_copy s
-
-  -- or a search begins
-  left_to_copy : (s : Stage) (job : Option MoveJob) (marked : Bool) → left_of_collector (if marked then collector.Draw (searched s 1) else to_tag job s) ≤ left_after Confirm s
-  left_to_copy s job true = omega (arith, searches_next SEARCHES (SEARCHES - 1) (cycles_after s) (search_steps s.layout) (omega arith))
-  left_to_copy s job false = left_to_tag s job
+  left_to_copy : IsSmall plan → (s : Stage) (marked : Bool) → left_of_collector (if marked then collector.Draw (searched s 1) else work_at kit plan (record s { announcement = Copy })) ≤ left_after Confirm s
+  left_to_copy small s true = omega (arith, searches_next SEARCHES (SEARCHES - 1) (cycles_after s) (search_steps s.layout) (omega arith))
+  left_to_copy small s false = let most = work_most small (λ a. 0) (record s { announcement = Copy }) in omega (arith, most.0, says_copy s)
 
   left_to_seek : (s : Stage) → left_of_collector (seek_at s) ≤ left_after Search s
   left_to_seek s = omega arith
@@ -116,87 +184,65 @@ module _ {R W E M : Type 0} (kit : Kit R W E M) (by : Stepping R W E M) (alone :
   says_fix : (s : Stage) → work_steps + announced_left (record s { announcement = Fix }) ≤ left_after Copy s
   says_fix s = says_after (2 + 5 * cycles_after s) (1 + 5 * cycles_after s) (steps_each s) (rest_after Copy s) (rest_after Fix s) work_steps (omega arith) (omega arith)
 
-  few_moves : (l : Sizes) (job : MoveJob) (mark : ℕ) → HasPlace job → alone.move_left (kit.starts_move l job mark) ≤ work_steps
-  few_moves l job mark place = let few = alone.move_few l job mark place in omega (arith, few)
+  left_to_fix : IsSmall plan → (s : Stage) (marked : Bool) → left_of_collector (if marked then work_at kit plan (record s { announcement = Fix }) else moves_at kit plan (record s { announcement = Fix })) ≤ left_after Copy s
+  left_to_fix small s true = let most = work_most small (λ a. 0) (record s { announcement = Fix }) in omega (arith, most.0, says_fix s)
+  left_to_fix small s false = let most = moves_most small (λ a. 0) (record s { announcement = Fix }) in omega (arith, most.0, says_fix s)
 
-  left_to_move : (s : Stage) (job : MoveJob) → HasPlace job → (marked : Bool)
-      → left_of_collector (if marked then collector.Source (record s { announcement = Fix }) job else move_at kit (record s { announcement = Fix }) job) ≤ left_after Copy s
-  left_to_move s job place true = says_fix s
-  left_to_move s job place false =
-      at_most (alone.move_left (kit.starts_move s.layout job (mark_word s))) work_steps (announced_left (record s { announcement = Fix })) (left_after Copy s) (few_moves s.layout job (mark_word s) place) (says_fix s)
-
-  left_to_fix : (s : Stage) → IsLayout s.layout → (job : Option MoveJob) → planned s ≡ job → left_of_collector (to_fix kit job s) ≤ left_after Copy s
-  left_to_fix s fits None is = none_of work_steps (announced_left (record s { announcement = Fix })) (left_after Copy s) (says_fix s)
-  left_to_fix s fits (Some job) is = left_to_move s job (job_planned s job fits is) (is_clover s.kind)
-
-  left_after_is : (a : Announcement) (s : Stage) → IsLayout s.layout → left_of_collector (behind_by kit a s) ≤ left_after a s
-  left_after_is Mark s fits = says_next (4 + 5 * cycles_after s) (3 + 5 * cycles_after s) (steps_each s) (rest_after Mark s) (rest_after Confirm s) (omega arith) (omega arith)
-  left_after_is Confirm s fits = left_to_copy s (planned s) (is_clover s.kind)
-  left_after_is Search s fits = left_to_seek s
-  left_after_is Copy s fits = left_to_fix s fits (planned s) refl
-  left_after_is Fix s fits = says_next (1 + 5 * cycles_after s) (0 + 5 * cycles_after s) (steps_each s) (rest_after Fix s) (rest_after Free s) (omega arith) (omega arith)
-  left_after_is Free s fits = left_after_free s (nat_lt s.cycle s.cycles) refl
+  left_after_is : IsSmall plan → (a : Announcement) (s : Stage) → left_of_collector (behind_by kit plan a s) ≤ left_after a s
+  left_after_is small Mark s = says_next (4 + 5 * cycles_after s) (3 + 5 * cycles_after s) (steps_each s) (rest_after Mark s) (rest_after Confirm s) (omega arith) (omega arith)
+  left_after_is small Confirm s = left_to_copy small s (is_clover s.kind)
+  left_after_is small Search s = left_to_seek s
+  left_after_is small Copy s = left_to_fix small s (is_clover s.kind)
+  left_after_is small Fix s = says_next (1 + 5 * cycles_after s) (0 + 5 * cycles_after s) (steps_each s) (rest_after Fix s) (rest_after Free s) (omega arith) (omega arith)
+  left_after_is small Free s = left_after_free s (nat_lt s.cycle s.cycles) refl
 
   -- ---- a mover that begins
 
   module _ (memory : ℕ → ℕ) where
-    free_alone : (s : Stage) (more : Bool) → MovesAlone memory (if more then collector.Announce (record s { cycle = s.cycle + 1; announcement = Mark }) else collector.Done s)
+    free_alone : (s : Stage) (more : Bool) → MovesAlone kit by alone memory (if more then collector.Announce (record s { cycle = s.cycle + 1; announcement = Mark }) else collector.Done s)
     free_alone s true = tt
     free_alone s false = tt
 
-    tag_alone : (s : Stage) (job : Option MoveJob) → MovesAlone memory (to_tag job s)
-    tag_alone s None = tt
-    tag_alone s (Some job) = tt
+    copy_alone : IsSmall plan → (s : Stage) (marked : Bool) → MovesAlone kit by alone memory (if marked then collector.Draw (searched s 1) else work_at kit plan (record s { announcement = Copy }))
+    copy_alone small s true = tt
+    copy_alone small s false = (work_most small memory (record s { announcement = Copy })).1
 
-    copy_alone : (s : Stage) (job : Option MoveJob) (marked : Bool) → MovesAlone memory (if marked then collector.Draw (searched s 1) else to_tag job s)
-    copy_alone s job true = tt
-    copy_alone s job false = tag_alone s job
+    fix_alone : IsSmall plan → (s : Stage) (marked : Bool) → MovesAlone kit by alone memory (if marked then work_at kit plan (record s { announcement = Fix }) else moves_at kit plan (record s { announcement = Fix }))
+    fix_alone small s true = (work_most small memory (record s { announcement = Fix })).1
+    fix_alone small s false = (moves_most small memory (record s { announcement = Fix })).1
 
-    move_alone : (s : Stage) (job : MoveJob) → HasPlace job → (marked : Bool) → MovesAlone memory (if marked then collector.Source (record s { announcement = Fix }) job else move_at kit (record s { announcement = Fix }) job)
-    move_alone s job place true = tt
-    move_alone s job place false = alone.move_first memory s.layout job (mark_word s) place
-
-    fix_alone : (s : Stage) → IsLayout s.layout → (job : Option MoveJob) → planned s ≡ job → MovesAlone memory (to_fix kit job s)
-    fix_alone s fits None is = tt
-    fix_alone s fits (Some job) is = move_alone s job (job_planned s job fits is) (is_clover s.kind)
-
-    behind_alone : (a : Announcement) (s : Stage) → IsLayout s.layout → MovesAlone memory (behind_by kit a s)
-    behind_alone Mark s fits = tt
-    behind_alone Confirm s fits = copy_alone s (planned s) (is_clover s.kind)
-    behind_alone Search s fits = tt
-    behind_alone Copy s fits = fix_alone s fits (planned s) refl
-    behind_alone Fix s fits = tt
-    behind_alone Free s fits = free_alone s (nat_lt s.cycle s.cycles)
+    behind_alone : IsSmall plan → (a : Announcement) (s : Stage) → MovesAlone kit by alone memory (behind_by kit plan a s)
+    behind_alone small Mark s = tt
+    behind_alone small Confirm s = copy_alone small s (is_clover s.kind)
+    behind_alone small Search s = tt
+    behind_alone small Copy s = fix_alone small s (is_clover s.kind)
+    behind_alone small Fix s = tt
+    behind_alone small Free s = free_alone s (nat_lt s.cycle s.cycles)
 
   -- ---- a look
 
   -- what has ended is awaited no longer
   awaits_on : (s : Stage) (pass : ℕ) (m : AwaitMachine) (found : ℕ) (same ended : Bool) → ended ≡ true
-      → looked kit s pass m (Some (if same then Answered else (if ended then Retired else NotYet pass found))) ≡ awaited kit s pass
+      → looked kit plan s pass m (Some (if same then Answered else (if ended then Retired else NotYet pass found))) ≡ awaited kit plan s pass
   awaits_on s pass m found true ended is = refl
   awaits_on s pass m found false true is = refl
   awaits_on s pass m found false false is = absurd cc
 
-  look_ends : (s : Stage) (pass found : ℕ) → found ≡ retired_word → fed_of kit by.move_fed (look s pass) found ≡ awaited kit s pass
+  look_ends : (s : Stage) (pass found : ℕ) → found ≡ retired_word → fed_of kit by.move_fed plan (look s pass) found ≡ awaited kit plan s pass
   look_ends s pass found is =
       awaits_on s pass (await.Acknowledgement (ack_at pass) pass (word_of s)) found (found == word_of s) (found == retired_word) (eq-eqb found retired_word is)
 
-  awaited_falls : (memory : ℕ → ℕ) (s : Stage) (pass : ℕ) (more : Bool) → IsLayout s.layout → pass < steps_each s → nat_lt pass s.layout.passes ≡ more
-      → FallsTo (steps_each s - pass + left_after s.announcement s) memory (if more then look s (pass + 1) else behind_by kit s.announcement s)
-  awaited_falls memory s pass true fits within is = (omega (arith, within), tt)
-  awaited_falls memory s pass false fits within is = (omega (arith, within, left_after_is s.announcement s fits), behind_alone memory s.announcement s fits)
+  awaited_falls : IsSmall plan → (memory : ℕ → ℕ) (s : Stage) (pass : ℕ) (more : Bool) → pass < steps_each s → nat_lt pass s.layout.passes ≡ more
+      → FallsTo (steps_each s - pass + left_after s.announcement s) memory (if more then look s (pass + 1) else behind_by kit plan s.announcement s)
+  awaited_falls small memory s pass true within is = (omega (arith, within), tt)
+  awaited_falls small memory s pass false within is = (omega (arith, within, left_after_is small s.announcement s), behind_alone memory small s.announcement s)
 
   -- ---- a move
 
-  moved_falls : (memory : ℕ → ℕ) (s : Stage) (job : MoveJob) (m : M) (before : ℕ) (end : Option MoveEnd) → (alone.move_left m < before) × alone.MoveAlone memory m
-      → FallsTo (before + announced_left s) memory (moved_by kit s job m end)
-  moved_falls memory s job m before None on = (omega (arith, on.0), on.1)
-  moved_falls memory s job m before (Some end) on = (omega (arith, on.0), tt)
-
-  -- the words of a job's regions are stored
-  targeted_falls : (memory : ℕ → ℕ) (s : Stage) (job : MoveJob) → HasPlace job → (marked : Bool) → FallsTo (2 + most_move_steps + announced_left s) memory (if marked then move_at kit s job else collector.Tag s job)
-  targeted_falls memory s job place true = let few = alone.move_few s.layout job (mark_word s) place in (omega (arith, few), alone.move_first memory s.layout job (mark_word s) place)
-  targeted_falls memory s job place false = (omega arith, tt)
+  moved_falls : IsSmall plan → (memory : ℕ → ℕ) (s : Stage) (job : MoveJob) (next : ℕ) (m : M) (before : ℕ) (end : Option MoveEnd) → (alone.move_left m < before) × alone.MoveAlone memory m
+      → FallsTo (before + length (drop next plan.jobs) * most_move_steps + announced_left s) memory (moved_by kit plan s job next m end)
+  moved_falls small memory s job next m before None on = (omega (arith, on.0), on.1)
+  moved_falls small memory s job next m before (Some end) on = let most = move_most small memory s (slice_get plan.jobs next) next refl in (omega (arith, on.0, most.0), most.1)
 
   -- ---- a search
 
@@ -225,10 +271,10 @@ module _ {R W E M : Type 0} (kit : Kit R W E M) (by : Stepping R W E M) (alone :
 
   -- ---- its step
 
-  module _ (l : Sizes) (fits : IsLayout l) (cycles : ℕ) (words : List ℕ) (ended : (pass : ℕ) → IsPass l pass → reading words (ack_at pass) ≡ retired_word) where
+  module _ (small : IsSmall plan) (l : Sizes) (fits : IsLayout l) (cycles : ℕ) (words : List ℕ) (ended : (pass : ℕ) → IsPass l pass → reading words (ack_at pass) ≡ retired_word) where
     -- what its step goes on to, and memory then
     abbrev pub next : CollectorMachine M → CollectorMachine M
-    next k = fed_of kit by.move_fed k (found_by (asks_of by.move_asks k) words)
+    next k = fed_of kit by.move_fed plan k (found_by (asks_of by.move_asks k) words)
 
     abbrev pub memory_after : CollectorMachine M → ℕ → ℕ
     memory_after k = reading (applied (asks_of by.move_asks k) words)
@@ -240,14 +286,11 @@ module _ {R W E M : Type 0} (kit : Kit R W E M) (by : Stepping R W E M) (alone :
     look_falls : (s : Stage) (pass : ℕ) → s.layout ≡ l → IsPass l pass → Falls (look s pass)
     look_falls s pass layout there =
         let passes : s.layout.passes ≡ l.passes = ap (λ (x : Sizes). x.passes) layout in
-        let less = awaited_falls (memory_after (look s pass)) s pass (nat_lt pass s.layout.passes) (subst IsLayout (sym layout) fits) (omega (arith, there.1, passes)) refl in
+        let less = awaited_falls small (memory_after (look s pass)) s pass (nat_lt pass s.layout.passes) (omega (arith, there.1, passes)) refl in
         subst (FallsTo (left_of_collector (look s pass)) (memory_after (look s pass))) (sym (look_ends s pass (reading words (ack_at pass)) (ended pass there))) less
 
-    work_place : (next : Announcement) (s : Stage) (job : MoveJob) → IsWork l kit.kind cycles next s job → HasPlace job
-    work_place next s job is = job_planned s job (subst IsLayout (sym is.stage.layout) fits) is.job_is
-
     -- a step of a collector that has not played its cycles
-    pub collector_falls : (k : CollectorMachine M) → IsCollector l kit.kind cycles k → asks_of by.move_asks k ≢ Ended → CollectorFinds kit by words k → MovesAlone (reading words) k → Falls k
+    pub collector_falls : (k : CollectorMachine M) → IsCollector l kit.kind cycles plan k → asks_of by.move_asks k ≢ Ended → CollectorFinds kit by words k → MovesAlone kit by alone (reading words) k → Falls k
     collector_falls (collector.Announce s) is on finds stands = (omega arith, tt)
     collector_falls (collector.Await s pass m) is on finds stands =
         let await : IsAwait l kit.kind cycles s pass m = is in
@@ -257,18 +300,21 @@ module _ {R W E M : Type 0} (kit : Kit R W E M) (by : Stepping R W E M) (alone :
         let seeks : IsSeek l kit.kind cycles s m = is in
         let found : ℕ = found_by (seeking.asks_of m) words in
         sought_falls (memory_after (collector.Seek s m)) s (seeking.fed_of m found) (seek_left m) (seeking.end_of (seeking.fed_of m found)) (seek_falls l (mark_word s) m found seeks.seeks)
-    collector_falls (collector.Source s job) is on finds stands = (omega arith, tt)
-    collector_falls (collector.Target s job) is on finds stands = targeted_falls (memory_after (collector.Target s job)) s job (work_place _ s job is) (is_clover s.kind)
-    collector_falls (collector.Tag s job) is on finds stands = (omega arith, tt)
-    collector_falls (collector.Move s job m) is on finds stands =
+    collector_falls (collector.Source s region next) is on finds stands =
+        let most = source_most small (memory_after (collector.Source s region next)) s (slice_get plan.chosen next) next refl in (omega (arith, most.0), most.1)
+    collector_falls (collector.Target s region next) is on finds stands =
+        let most = target_most small (memory_after (collector.Target s region next)) s (slice_get plan.jobs next) next refl in (omega (arith, most.0), most.1)
+    collector_falls (collector.Tag s job next) is on finds stands =
+        let most = tag_most small (memory_after (collector.Tag s job next)) s (slice_get plan.jobs next) next refl in (omega (arith, most.0), most.1)
+    collector_falls (collector.Move s job next m) is on finds stands =
         let fed : M = by.move_fed m (found_by (by.move_asks m) words) in
-        moved_falls (memory_after (collector.Move s job m)) s job fed (alone.move_left m) (kit.move_ended fed) (alone.moves_on words m on finds stands)
+        moved_falls small (memory_after (collector.Move s job next m)) s job next fed (alone.move_left m) (kit.move_ended fed) (alone.moves_on words m on finds stands)
     collector_falls (collector.Done s) is on finds stands = absurd (on refl)
 
   -- ---- the start
 
   -- five announcements, the job and eight searches of each cycle
-  pub left_at_start : (l : Sizes) (cycles salt : ℕ) → left_of_collector (collector_of kit l cycles salt) ≤ 5 * cycles * (1 + l.passes) + (job_steps * cycles + SEARCHES * cycles * search_steps l)
+  pub left_at_start : (l : Sizes) (cycles salt : ℕ) → left_of_collector (collector_of kit plan l cycles salt) ≤ 5 * cycles * (1 + l.passes) + (job_steps * cycles + SEARCHES * cycles * search_steps l)
   left_at_start l cycles salt =
       let s : Stage = stage_at_start kit.kind l cycles salt in
       let all : after_in Free + 5 * cycles_after s ≡ 5 * cycles = omega arith in
@@ -276,7 +322,7 @@ module _ {R W E M : Type 0} (kit : Kit R W E M) (by : Stepping R W E M) (alone :
       omega (arith, left_after_free s (nat_lt 0 cycles) refl, ap (λ n. n * (1 + l.passes)) all, ap (λ n. n * search_steps l) searches)
 
   -- no move has begun
-  pub alone_at_start : (memory : ℕ → ℕ) (l : Sizes) (cycles salt : ℕ) → MovesAlone memory (collector_of kit l cycles salt)
+  pub alone_at_start : (memory : ℕ → ℕ) (l : Sizes) (cycles salt : ℕ) → MovesAlone kit by alone memory (collector_of kit plan l cycles salt)
   alone_at_start memory l cycles salt = free_alone memory (stage_at_start kit.kind l cycles salt) (nat_lt 0 cycles)
 
 -- nothing is awaited, and no mark goes with what was announced
@@ -292,9 +338,9 @@ module _ (M : Type 0) (kind : Kind) (l : Sizes) (cycles salt : ℕ) where
   mark_from true = refl
   mark_from false = refl
 
-module _ {R W E M : Type 0} (kit : Kit R W E M) (l : Sizes) (cycles salt : ℕ) where
-  pub passed_from_start : passed_of (collector_of kit l cycles salt) ≡ l.passes
+module _ {R W E M : Type 0} (kit : Kit R W E M) (plan : Planned) (l : Sizes) (cycles salt : ℕ) where
+  pub passed_from_start : passed_of (collector_of kit plan l cycles salt) ≡ l.passes
   passed_from_start = passed_from M kit.kind l cycles salt (nat_lt 0 cycles)
 
-  pub no_mark_at_start : (let a = announced_by (collector_of kit l cycles salt) in a.mark) ≡ 0
+  pub no_mark_at_start : (let a = announced_by (collector_of kit plan l cycles salt) in a.mark) ≡ 0
   no_mark_at_start = mark_from M kit.kind l cycles salt (nat_lt 0 cycles)

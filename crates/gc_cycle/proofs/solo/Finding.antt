@@ -44,6 +44,7 @@ use Rattle.gc_cycle.proofs.script.Stepped.{stands}
 use Rattle.gc_cycle.proofs.script.Turns.{made_few}
 use Rattle.gc_cycle.proofs.solo.PlaysAlone.{ExchangeFinds, MoveFinds}
 use Rattle.gc_cycle.proofs.solo.Turns.{machine_at}
+use Rattle.space_reclaim.specs.Plans.{Planned}
 
 module _ {R W E M : Type 0} (kit : Kit R W E M) (by : Stepping R W E M) where
   -- of the machine of a pass, and of the collector's
@@ -52,7 +53,7 @@ module _ {R W E M : Type 0} (kit : Kit R W E M) (by : Stepping R W E M) where
   PassFinds words m = Unit {0}
 
   abbrev pub CollectorFinds : List ℕ → CollectorMachine M → Type 0
-  CollectorFinds words (collector.Move s job m) = MoveFinds kit by words m
+  CollectorFinds words (collector.Move s job next m) = MoveFinds kit by words m
   CollectorFinds words k = Unit {0}
 
   module _ (laws : Laws kit by) where
@@ -75,15 +76,15 @@ module _ {R W E M : Type 0} (kit : Kit R W E M) (by : Stepping R W E M) where
 
     -- ---- a move
 
-    module _ (l : Sizes) (words : List ℕ) (s : Space) (n : Notices) (counts : Awaited) (sealed : List Sealed) where
-      move_finds_so : (st : Stage) (job : MoveJob) (m : M) → CollectorStands kit by l words s n counts sealed (collector.Move st job m) → MoveFinds kit by words m
-      move_finds_so st job m stood =
+    module _ (l : Sizes) (words : List ℕ) (plan : Planned) (s : Space) (n : Notices) (counts : Awaited) (sealed : List Sealed) where
+      move_finds_so : (st : Stage) (job : MoveJob) (next : ℕ) (m : M) → CollectorStands kit by l words plan s n counts sealed (collector.Move st job next m) → MoveFinds kit by words m
+      move_finds_so st job next m stood =
           let C : Carried = kit.moves m in
-          let c : Cycle = cycle_of (collector.Move st job m) in
-          let its = mover.is kit by laws l words s n counts sealed st job m stood in
-          let on = mover.goes_on kit by laws l words s n counts sealed st job m stood in
+          let c : Cycle = cycle_of (collector.Move st job next m) in
+          let its = mover.is kit by laws l words plan s n counts sealed st job next m stood in
+          let on = mover.goes_on kit by laws l words plan s n counts sealed st job next m stood in
           let word : IsMoveWord job (move_finds (here s job.from (field_of C)) C) (reading words (place_of (move_step kit.kind c.mark C))) =
-          move_word_found l (reading words) s n stood.rows stood.says kit.kind c.mark C (mover.at kit by laws l words s n counts sealed st job m stood) job its.job in
+          move_word_found l (reading words) s n stood.rows stood.says kit.kind c.mark C (mover.at kit by laws l words plan s n counts sealed st job next m stood) job its.job in
           let asked : by.move_asks m ≡ move_step kit.kind c.mark C = laws.moving.asks_alike c.mark m its.own in
           let found : reading words (place_of (move_step kit.kind c.mark C)) ≡ found_by (by.move_asks m) words =
           ap (λ (step : Step). reading words (place_of step)) (sym asked) ∙ sym (found_by-step (by.move_asks m) words on) in
@@ -91,11 +92,11 @@ module _ {R W E M : Type 0} (kit : Kit R W E M) (by : Stepping R W E M) where
             job = job;
             here = here s job.from (field_of C);
             word = subst (IsMoveWord job (move_finds (here s job.from (field_of C)) C)) found word;
-            inside = subst (λ (len : ℕ). IsInside len (by.move_asks m)) (sym stood.width) (mover.move_inside kit by laws l words s n counts sealed st job m stood);
+            inside = subst (λ (len : ℕ). IsInside len (by.move_asks m)) (sym stood.width) (mover.move_inside kit by laws l words plan s n counts sealed st job next m stood);
           }
 
-      step_finds : (k : CollectorMachine M) → CollectorStands kit by l words s n counts sealed k → CollectorFinds words k
-      step_finds (collector.Move st job m) stood = move_finds_so st job m stood
+      step_finds : (k : CollectorMachine M) → CollectorStands kit by l words plan s n counts sealed k → CollectorFinds words k
+      step_finds (collector.Move st job next m) stood = move_finds_so st job next m stood
       step_finds k stood = tt
 
     -- ---- in a lawful world
@@ -113,4 +114,4 @@ module _ {R W E M : Type 0} (kit : Kit R W E M) (by : Stepping R W E M) where
           let q : CollectorKnown M = collector_in w in
           let others : List (Party R W E M) = map (in_pass w) w.passes in
           let before = lawful_regroups kit w.layout w.words (records_in w) (parties.Collector q ∷ others) (collector_first kit by laws w lw) lw.records in
-          step_finds w.layout w.words before.space before.notices q.awaited q.sealed w.collector (collector_stands kit by laws w.layout w.words others q before)
+          step_finds w.layout w.words w.plan before.space before.notices q.awaited q.sealed w.collector (collector_stands kit by laws w.layout w.words others q before)

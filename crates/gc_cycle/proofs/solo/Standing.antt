@@ -71,16 +71,16 @@ module _ {R W E M : Type 0} (kit : Kit R W E M) where
   mark_of_word a pass acked mark (inr (inr waits)) none passed = absurd (omega (arith, waits.1, passed))
 
   -- where the collector has not begun, none has a mark yet
-  pub none_marked : (w : State R W E M) → Lawful kit w → (p : ℕ) → IsPass w.layout p → (cycles salt : ℕ) → w.collector ≡ collector_of kit w.layout cycles salt → IsUnmarked (pass_at w p)
+  pub none_marked : (w : State R W E M) → Lawful kit w → (p : ℕ) → IsPass w.layout p → (cycles salt : ℕ) → w.collector ≡ collector_of kit w.plan w.layout cycles salt → IsUnmarked (pass_at w p)
   none_marked w lw p is cycles salt start =
       let r : PassRecord R W E = pass_at w p in
       let thread = lw.threads p is in
       let its = pass_record kit w lw p is in
       let collects = collector_record kit w lw in
       let same : view_by r.machine r.view ≡ r.view = view_going kit r.machine r.view thread.going in
-      let begun : lw.records.collector ≡ collector_of kit w.layout cycles salt = sym collects.machine ∙ start in
-      let none : (let a = announced_by lw.records.collector in a.mark) ≡ 0 = ap (λ (k : CollectorMachine M). (let a = announced_by k in a.mark)) begun ∙ no_mark_at_start kit w.layout cycles salt in
-      let passed : passed_of lw.records.collector ≡ w.layout.passes = ap passed_of begun ∙ passed_from_start kit w.layout cycles salt in
+      let begun : lw.records.collector ≡ collector_of kit w.plan w.layout cycles salt = sym collects.machine ∙ start in
+      let none : (let a = announced_by lw.records.collector in a.mark) ≡ 0 = ap (λ (k : CollectorMachine M). (let a = announced_by k in a.mark)) begun ∙ no_mark_at_start kit w.plan w.layout cycles salt in
+      let passed : passed_of lw.records.collector ≡ w.layout.passes = ap passed_of begun ∙ passed_from_start kit w.plan w.layout cycles salt in
       let number : (let view = view_by r.machine r.view in view.pass) ≡ p = ap (λ (v : PassView). v.pass) same ∙ thread.number in
       ap (λ (v : PassView). v.mark) (sym same) ∙ mark_of_word (announced_by lw.records.collector) _ _ _ its.answering.marked none (omega (arith, number, passed, is.1))
 
@@ -89,7 +89,7 @@ module _ {R W E M : Type 0} (kit : Kit R W E M) where
     not_retired m on is = on (ap (asks kit by) is)
 
     -- where the collector has not begun
-    pub unhindered : (w : State R W E M) → Lawful kit w → (p : ℕ) → IsPass w.layout p → (cycles salt : ℕ) → w.collector ≡ collector_of kit w.layout cycles salt → asks_at kit by w p ≢ steps.Ended
+    pub unhindered : (w : State R W E M) → Lawful kit w → (p : ℕ) → IsPass w.layout p → (cycles salt : ℕ) → w.collector ≡ collector_of kit w.plan w.layout cycles salt → asks_at kit by w p ≢ steps.Ended
         → IsUnhindered kit by w.words (machine_at w p)
     unhindered w lw p is cycles salt start on =
         let r : PassRecord R W E = pass_at w p in
@@ -99,7 +99,7 @@ module _ {R W E M : Type 0} (kit : Kit R W E M) where
         let own : r.view.pass ≡ p = thread.number in
         let said = acknowledged kit w lw p is in
         let running : r.view.acked ≢ retired_word = λ e. not_retired r.machine on (said.retired.0 e) in
-        let passed : passed_of w.collector ≡ w.layout.passes = ap passed_of start ∙ passed_from_start kit w.layout cycles salt in
+        let passed : passed_of w.collector ≡ w.layout.passes = ap passed_of start ∙ passed_from_start kit w.plan w.layout cycles salt in
         let acked : r.view.acked ≡ announced_of w.collector = said.passed running (omega (arith, is.1, passed)) in
         let phase : announced_of w.collector ≡ lw.records.notices.phase = ap announced_of collects.machine ∙ sym lw.records.announced in
         unhindered_at by w.layout w.words lw.records.space lw.records.notices (cycle_of lw.records.collector) (known_in w r)

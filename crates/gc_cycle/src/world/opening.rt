@@ -9,6 +9,7 @@ ghost use Rattle.gc_cycle.specs.Worlds.{opening_words as opening_words_of, openi
 
 use super::World;
 use super::marking::{NOWHERE, unmarked};
+use crate::job_log::JobLog;
 use barriers::{Copier, PassMachine, PassRecord, Request, Room, start};
 use call_steps::{OutOfMemory, PlainWords, Step};
 use cycle_journal::CANDIDATES;
@@ -138,7 +139,8 @@ where
         let words = opening_words(alloc, &layout)?;
         let commands = Commands::of_lines(alloc, &script.lines, layout.passes())?;
         let passes = opening_passes::<P>(alloc, &layout, &commands)?;
-        let collector = Stage::first::<P>(&layout, script.cycles, salt);
+        let jobs = JobLog::new(alloc, &layout, P::KIND)?;
+        let collector = Stage::first::<P>(&layout, jobs.plan(), script.cycles, salt);
         let marks = unmarked(alloc, script.cycles)?;
         let told = Told::opening(alloc, &commands)?;
         Ok(World {
@@ -147,9 +149,8 @@ where
             words,
             passes,
             collector,
+            jobs,
             awaited: Awaited::NONE,
-            sealed: None,
-            moved: None,
             finds: [NOWHERE; CANDIDATES],
             marks,
             told,

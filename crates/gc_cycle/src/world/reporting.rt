@@ -1,7 +1,7 @@
 //! What a world reports of its cycles.
 
 ghost use Rattle.std.specs.Prelude.{◌≡◌, IfOk};
-ghost use Rattle.gc_cycle.specs.Reports.{Reports, AreReports, ended_cycles as ended_by, job_in as job_of, mark_in as mark_of};
+ghost use Rattle.gc_cycle.specs.Reports.{Reports, AreReports, ended_cycles as ended_by, jobs_in as jobs_of_cycle, moved_row as moved_row_of, kept_row as kept_row_of, moves_of, kept_of, mark_in as mark_of};
 
 use super::World;
 use barriers::{Copier, MoveEnd};
@@ -29,11 +29,11 @@ fn ended_cycles<M>(collector: &CollectorMachine<M>) -> u32
     stage.cycle.saturating_sub(1)
 }
 
-/// How the job of this cycle has ended, if it has one.
-fn job_in(cycle: u32, moved: Option<(MoveJob, MoveEnd)>) -> Option<(MoveJob, MoveEnd)>
-    ensures { result ≡ job_of cycle moved }
+/// How the jobs of this cycle have ended.
+fn jobs_in(cycle: u32, moved: &[(MoveJob, MoveEnd)]) -> &[(MoveJob, MoveEnd)]
+    ensures { result.now ≡ jobs_of_cycle cycle moved.now }
 {
-    if cycle == 1 { moved } else { None }
+    if cycle == 1 { moved } else { &[] }
 }
 
 /// The mark of this cycle.
@@ -46,30 +46,71 @@ fn mark_in(cycle: u32, marks: &[MarkRow]) -> MarkRow
     }
 }
 
-/// The report of a cycle with this mark, whose job has ended so, if it has one.
-fn report_of(
-    alloc: Global,
-    cycle: u32,
-    ended: Option<(MoveJob, MoveEnd)>,
-    mark: MarkRow,
-) -> Result<CycleReport, OutOfMemory>
-    ensures { IfOk result (Reports cycle ended mark) }
+/// The object of a job that was moved.
+fn moved_row(ended: &(MoveJob, MoveEnd)) -> Option<MoveRow>
+    ensures { result ≡ moved_row_of ended.now }
 {
-    let mut moves = Vec::new(alloc);
-    let mut kept = Vec::new(alloc);
     match ended {
-        None => {}
-        Some((job, MoveEnd::Moved)) => moves.push(MoveRow {
+        (job, MoveEnd::Moved) => Some(MoveRow {
             birth: job.birth,
             from: job.from,
             to: job.to,
-        })?,
-        Some((job, MoveEnd::Kept { header })) => kept.push(KeptRow {
+        }),
+        (_, MoveEnd::Kept { .. }) => None,
+    }
+}
+
+/// The object of a job that stays where it is.
+fn kept_row(ended: &(MoveJob, MoveEnd)) -> Option<KeptRow>
+    ensures { result ≡ kept_row_of ended.now }
+{
+    match ended {
+        (_, MoveEnd::Moved) => None,
+        (job, MoveEnd::Kept { header }) => Some(KeptRow {
             birth: job.birth,
             at: job.from,
-            header,
-        })?,
+            header: *header,
+        }),
     }
+}
+
+/// The objects of jobs that were moved, in the order of the jobs.
+fn moves_in(alloc: Global, ended: &[(MoveJob, MoveEnd)]) -> Result<Vec<MoveRow>, OutOfMemory>
+    ensures { IfOk result (λ rows. rows.items ≡ moves_of ended.now) }
+{
+    let mut rows = Vec::new(alloc);
+    for one in ended {
+        if let Some(row) = moved_row(one) {
+            rows.push(row)?;
+        }
+    }
+    Ok(rows)
+}
+
+/// The objects of jobs that stay where they are, in the order of the jobs.
+fn kept_in(alloc: Global, ended: &[(MoveJob, MoveEnd)]) -> Result<Vec<KeptRow>, OutOfMemory>
+    ensures { IfOk result (λ rows. rows.items ≡ kept_of ended.now) }
+{
+    let mut rows = Vec::new(alloc);
+    for one in ended {
+        if let Some(row) = kept_row(one) {
+            rows.push(row)?;
+        }
+    }
+    Ok(rows)
+}
+
+/// The report of a cycle with this mark, whose jobs have ended so.
+fn report_of(
+    alloc: Global,
+    cycle: u32,
+    ended: &[(MoveJob, MoveEnd)],
+    mark: MarkRow,
+) -> Result<CycleReport, OutOfMemory>
+    ensures { IfOk result (Reports cycle ended.now mark) }
+{
+    let moves = moves_in(alloc, ended)?;
+    let kept = kept_in(alloc, ended)?;
     Ok(CycleReport {
         cycle,
         live: Vec::new(alloc),
@@ -81,27 +122,28 @@ fn report_of(
     })
 }
 
-/// The reports of so many cycles with these marks, where the job of the first has ended so, if it has one.
+/// The reports of so many cycles with these marks, where the jobs of the first have ended so.
 fn reports_of(
     alloc: Global,
     cycles: u32,
-    moved: Option<(MoveJob, MoveEnd)>,
+    moved: &[(MoveJob, MoveEnd)],
     marks: &[MarkRow],
 ) -> Result<Vec<CycleReport>, OutOfMemory>
-    ensures { IfOk result (λ reports. AreReports cycles moved marks.now reports.items) }
+    ensures { IfOk result (λ reports. AreReports cycles moved.now marks.now reports.items) }
 {
     let mut reports = Vec::new(alloc);
     for index in 0..cycles {
         let cycle = index + 1;
-        let report = report_of(alloc, cycle, job_in(cycle, moved), mark_in(cycle, marks))?;
+        let report = report_of(alloc, cycle, jobs_in(cycle, moved), mark_in(cycle, marks))?;
         reports.push(report)?;
     }
     Ok(reports)
 }
 
 impl<P: Copier> World<P> {
-    /// The report of each cycle that the collector has ended: its mark, and the object that it has moved, or that
-    /// stays where it is, with the header found there. No region is planned or freed yet.
+    /// The report of each cycle that the collector has ended: its mark, the objects that it has moved and those that
+    /// stay where they are, with the header found there, each in the order of the plan. No region is reported as chosen
+    /// or freed yet.
     pub fn reports(&self, alloc: Global) -> Result<Vec<CycleReport>, OutOfMemory>
         ensures { IfOk result (λ reports. AreReports (ended_by self.now.collector) self.now.moved
             self.now.marks reports.items) }
@@ -109,7 +151,7 @@ impl<P: Copier> World<P> {
         reports_of(
             alloc,
             ended_cycles(&self.collector),
-            self.moved,
+            self.jobs.moved(),
             &self.marks,
         )
     }

@@ -14,4 +14,4 @@ opening-requires g c =
     subst (λ commands. total commands < 4294967296) (sym c.in_ok-commands.ensures) (few_commands c.passes.result c.deref.result.now few)
 
 pub returns-clause-lawful : goal.returns-clause-lawful
-returns-clause-lawful g c = lawful_at_start g.P.Copier.kit _ g.met.P.Copier.laws c.args.script.now c.args.salt c.requires _ (search rules)
+returns-clause-lawful g c = lawful_at_start g.P.Copier.kit _ g.met.P.Copier.laws c.args.script.now c.args.salt c.requires _ (search (rules, c.in_ok-jobs.ensures))

@@ -1,0 +1,6 @@
+use Rattle.std.specs.Prelude.{◌≡◌, take}
+use Rattle.gc_cycle.specs.Reports.{kept_of}
+use Rattle.gc_cycle.proofs.world.reporting.kept_in.Given as goal
+
+abbrev pub invariant-loop-one : goal.invariant-loop-one
+invariant-loop-one l = l.rows.items ≡ kept_of (take l.one-index l.ended)
