@@ -46,12 +46,19 @@ first_job kind l = record {
 abbrev pub has_job : Kind → Sizes → Bool
 has_job kind l = does_move kind && nat_le 2 l.pool && has_wide_room kind l
 
+-- the words of the wide area that its wide object takes, where objects are copied through wide objects
+abbrev pub wide_taken : Kind → ℕ
+wide_taken kinds.Stopless = WIDE_WORDS
+wide_taken kind = 0
+
 -- The plan of the first cycle, until cycles are planned: to move that object.
 abbrev pub first_plan : Kind → Sizes → Planned
 first_plan kind l = record {
   layout = l;
   chosen = (if has_job kind l then EMPTIED ∷ [] else []);
+  targets = (if has_job kind l then FILLED ∷ [] else []);
   jobs = (if has_job kind l then first_job kind l ∷ [] else []);
+  wide_words = (if has_job kind l then wide_taken kind else 0);
 }
 
 -- ---- headers
