@@ -46,7 +46,7 @@ pub record LacksField (spot : Spot) (last : LastStep) (len : ℕ) : Type 0 where
   pub says : len ≡ len_at last.found
   pub past : len ≤ spot.field
 
--- behind these steps, the load of the header
+-- after these steps, the load of the header
 abbrev pub header_load : Spot → List Taken → ℕ → LastStep
 header_load spot earlier n = record { earlier = earlier; step = Load spot.at; found = n }
 
@@ -69,7 +69,7 @@ abbrev pub ReadEndsFor : Spot → Phase → LastStep → ReadEnd → Type 0
 ReadEndsFor spot phase last (read_end.Got held) = IsGiven (LoadsField spot) phase last held
 ReadEndsFor spot phase last (read_end.NoField len) = LacksField spot last len
 
--- behind these steps the machine is a read of this field in this phase
+-- after these steps the machine is a read of this field in this phase
 abbrev pub IsReadFor : Spot → Phase → List Taken → ReadMachine → Type 0
 IsReadFor spot phase earlier (read.Header its in_phase) = (its ≡ spot) × (in_phase ≡ phase) × (earlier ≡ [])
 IsReadFor spot phase earlier (read.Field its in_phase) = (its ≡ spot) × (in_phase ≡ phase)
@@ -121,7 +121,7 @@ WriteEndsFor spot word last (write_end.Refused refusal.NotLink) = ⊥
 WriteEndsFor spot word last (write_end.Refused (refusal.Raced loaded found)) = ⊥
 WriteEndsFor spot word last (write_end.Refused (refusal.Busy cycle mark)) = ⊥
 
--- behind these steps the machine is a write of this field with this word
+-- after these steps the machine is a write of this field with this word
 abbrev pub IsWriteFor : Spot → ℕ → List Taken → WriteMachine → Type 0
 IsWriteFor spot word earlier (write.Header its its_word) = (its ≡ spot) × (its_word ≡ word) × (earlier ≡ [])
 IsWriteFor spot word earlier (write.Field its its_word) = (its ≡ spot) × (its_word ≡ word)
@@ -162,26 +162,26 @@ write_cause_of spot word = ends_only_for writes.asks_of writes.fed_of writes.end
 -- ---- an exchange
 
 -- without the first
-abbrev pub behind_first : List Taken → List Taken
-behind_first [] = []
-behind_first (first ∷ rest) = rest
+abbrev pub after_first : List Taken → List Taken
+after_first [] = []
+after_first (first ∷ rest) = rest
 
--- the step, counted from behind the load of the header
-abbrev pub behind_header : LastStep → LastStep
-behind_header last = record last { earlier = behind_first last.earlier }
+-- the step, counted from after the load of the header
+abbrev pub after_header : LastStep → LastStep
+after_header last = record last { earlier = after_first last.earlier }
 
 -- An exchange of this field is refused where the header lacks the field. What differs was found in the field by a load or a lost exchange of its
 -- word, has another value than the expected one, and is followed as the phase asks. All other ends are those of the exchange of the field's word.
 abbrev pub ExchangeEndsFor : Errand → Phase → LastStep → ExchangeEnd → Type 0
 ExchangeEndsFor errand phase last (exchange_end.Refused (refusal.NoField len)) = LacksField errand.spot last len
 ExchangeEndsFor errand phase last (exchange_end.Differs held) = IsGiven (at_word.FindsOther (exchanges.swap_of errand)) phase last held
-ExchangeEndsFor errand phase last end = at_word.EndsFor (exchanges.swap_of errand) (behind_header last) end
+ExchangeEndsFor errand phase last end = at_word.EndsFor (exchanges.swap_of errand) (after_header last) end
 
 -- the step, counted from the load of the header
 abbrev pub from_header : Taken → LastStep → LastStep
 from_header header later = record later { earlier = header ∷ later.earlier }
 
--- behind the load of the header this exchange of a word goes on
+-- after the load of the header this exchange of a word goes on
 pub record IsAtWord (swap : Swap) (earlier : List Taken) (its : PlainExchange) : Type 0 where
   pub header : Taken
   pub rest : List Taken
@@ -189,7 +189,7 @@ pub record IsAtWord (swap : Swap) (earlier : List Taken) (its : PlainExchange) :
   pub same : at_word.IsFor swap rest its
   pub goes_on : plainly.asks_of its ≢ Ended
 
--- behind these steps the machine is an exchange of this field in this phase
+-- after these steps the machine is an exchange of this field in this phase
 abbrev pub IsExchangeFor : Errand → Phase → List Taken → ExchangeMachine → Type 0
 IsExchangeFor errand phase earlier (exchange.Header its its_phase) = (its ≡ errand) × (its_phase ≡ phase) × (earlier ≡ [])
 IsExchangeFor errand phase earlier (exchange.Field its its_phase its_exchange) = (its_phase ≡ phase) × IsAtWord (exchanges.swap_of errand) earlier its_exchange

@@ -26,7 +26,7 @@ pub record FoundLink (IsLook : LastStep → Type 0) (phase : Phase) (steps : Lis
   pub in_fix : phase ≡ Fix
   pub last : LastStep
   pub look : IsLook last
-  pub behind : steps ≡ up_to last
+  pub after : steps ≡ up_to last
   pub link : field_at last.found ≡ Link birth at
 
 -- the step before found a link under Fix, the last step loaded the header at its address, and this is the link, going where that header says that the object is
@@ -41,7 +41,7 @@ pub record IsFollowed (IsLook : LastStep → Type 0) (phase : Phase) (last : Las
 abbrev pub IsGiven : (LastStep → Type 0) → Phase → LastStep → FieldWord → Type 0
 IsGiven IsLook phase last held = IsFound IsLook phase last held ⊎ IsFollowed IsLook phase last held
 
--- behind these steps it follows what the last of them found
+-- after these steps it follows what the last of them found
 abbrev pub IsFollowing : (LastStep → Type 0) → Phase → List Taken → FollowMachine → Type 0
 IsFollowing IsLook phase steps (follow.Header birth at) = FoundLink IsLook phase steps birth at
 IsFollowing IsLook phase steps (follow.Ended e) = Unit {0}
@@ -54,7 +54,7 @@ module _ (IsLook : LastStep → Type 0) (last : LastStep) (look : IsLook last) w
   follow_begins Confirm word e = tt
   follow_begins Copy word e = tt
   follow_begins Fix (Num n) e = tt
-  follow_begins Fix (Link birth at) e = record { in_fix = refl; last = last; look = look; behind = refl; link = sym e }
+  follow_begins Fix (Link birth at) e = record { in_fix = refl; last = last; look = look; after = refl; link = sym e }
   follow_begins Retired word e = tt
 
   found : (phase : Phase) (word : FieldWord) → word ≡ field_at last.found → asks_of (follow_of phase word) ≡ Ended → follow_of phase word ≡ follow.Ended (unshaded word) → ForSome (end_of (follow_of phase word)) (λ e. IsFound IsLook phase last e.word)

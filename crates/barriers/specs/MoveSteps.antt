@@ -26,7 +26,7 @@ use Rattle.barriers.specs.Moves.{Carried, Idles, Looks, Lays, Points, Gives_up, 
 
 -- ---- the job
 
--- it is of an object with this birth number and so many fields, of which this is the header as a walk found it
+-- it is of an object with this birth number and this many fields, of which this is the header as a walk found it
 pub record IsJob (j : MoveJob) : Type 0 where
   pub colour : Colour
   pub header : j.header ≡ head_word Plain colour j.len j.birth

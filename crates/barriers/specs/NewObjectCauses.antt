@@ -9,7 +9,7 @@ use Rattle.call_steps.specs.Ending.{after, Took}
 use Rattle.heap_words.specs.Layouts.{Sizes, IsLayout, IsPass, regions_of, region_at, first_word}
 use Rattle.heap_words.specs.PlaceLaws.{regions_of-bound}
 use Rattle.heap_words.specs.declared.limits.TheConstants.{BIRTHS_OF_PASS, MOST_REGIONS, REGION_WORDS}
-use Rattle.heap_words.specs.Packing.{fits_behind, packing}
+use Rattle.heap_words.specs.Packing.{fits_after, packing}
 use Rattle.object_headers.specs.Headers.{word_of_header}
 use Rattle.handshakes.specs.declared.pass_view.PassView.{PassView}
 use Rattle.space_reclaim.specs.declared.claim.Round.{Round}
@@ -40,7 +40,7 @@ FoundInUse m found at = Took asks_of fed_of (λ step word. claim_runs.FindsInUse
 abbrev pub Stored : NewMachine → List ℕ → ℕ → ℕ → Type 0
 Stored m found at put = Took asks_of fed_of (λ step word. step ≡ Store at put) m found
 
--- an object of this len does not fit behind the used words of the region, or there is none
+-- an object of this len does not fit after the used words of the region, or there is none
 abbrev pub NeedsRegion : Option ℕ → ℕ → ℕ → Type 0
 NeedsRegion None used len = Unit {0}
 NeedsRegion (Some region) used len = REGION_WORDS < used + len + 1
@@ -60,7 +60,7 @@ pub record IsMade (l : Sizes) (pass : ℕ) (had : Option ℕ) (made len : ℕ) (
 abbrev pub FillsQuota : Sizes → Room → List ℕ → Type 0
 FillsQuota l room lens = IsSome room.region × (l.quota ≤ packing lens) × (used_after_all REGION_WORDS lens ≡ room.used)
 
--- what it says that no region was free: the object needs one, each of the pass's own, so many as the quota, was found in use, and where the pass's objects have filled them, they and this one need more
+-- what it says that no region was free: the object needs one, each of the pass's own, as many as the quota, was found in use, and where the pass's objects have filled them, they and this one need more
 pub record IsSpent (l : Sizes) (pass : ℕ) (room : Room) (len : ℕ) (m : NewMachine) (found : List ℕ) (regions : ℕ) : Type 0 where
   pub needs : NeedsRegion room.region room.used len
   pub quota : regions ≡ l.quota
@@ -181,7 +181,7 @@ more_than_quota : (l : Sizes) (room : Room) (len : ℕ) (lens : List ℕ) → Ne
 more_than_quota l room len lens needs fills =
     let past : REGION_WORDS < room.used + len + 1 = past_region room.region room.used len needs fills.0 in
     let same = fills.2 in
-    let full : fits_behind (used_after_all REGION_WORDS lens) len ≡ false = grind (arith, nat_tests) in
+    let full : fits_after (used_after_all REGION_WORDS lens) len ≡ false = grind (arith, nat_tests) in
     let grows = packing_grows lens len full in
     let filled = fills.1 in
     omega arith
@@ -215,7 +215,7 @@ fitted_makes l pass room made len region had found end is =
     let m : NewMachine = make.Header (fitted l pass room made len region) in
     subst (MakesFor l pass room made len m found) is.made (record { next_birth = refl; stored = is.stored; last = (inl had, omega arith) })
 
-needs_region : (o : Option ℕ) (used len : ℕ) → fits_behind used len ≡ false → NeedsRegion o used len
+needs_region : (o : Option ℕ) (used len : ℕ) → fits_after used len ≡ false → NeedsRegion o used len
 needs_region None used len e = tt
 needs_region (Some region) used len e = leb-false (used + len + 1) REGION_WORDS e
 
@@ -225,7 +225,7 @@ claims_cause l pass room made len fits pass_is needs more = record {
   at_once = λ spent. absurd (more spent);
 }
 
-fit_cause : (l : Sizes) (pass : ℕ) (room : Room) (made len : ℕ) (o : Option ℕ) (b : Bool) → IsLayout l → IsPass l pass → made ≢ BIRTHS_OF_PASS → room.region ≡ o → fits_behind room.used len ≡ b → MakesWithCause l pass room made len (by_fit l pass room made len o b)
+fit_cause : (l : Sizes) (pass : ℕ) (room : Room) (made len : ℕ) (o : Option ℕ) (b : Bool) → IsLayout l → IsPass l pass → made ≢ BIRTHS_OF_PASS → room.region ≡ o → fits_after room.used len ≡ b → MakesWithCause l pass room made len (by_fit l pass room made len o b)
 fit_cause l pass room made len None b fits pass_is more e f = claims_cause l pass room made len fits pass_is (subst (λ (o : Option ℕ). NeedsRegion o room.used len) (sym e) tt) more
 fit_cause l pass room made len (Some region) false fits pass_is more e f = claims_cause l pass room made len fits pass_is (needs_region room.region room.used len f) more
 fit_cause l pass room made len (Some region) true fits pass_is more e f = record {
@@ -233,7 +233,7 @@ fit_cause l pass room made len (Some region) true fits pass_is more e f = record
   at_once = λ spent. absurd (more spent);
 }
 
-spent_cause : (l : Sizes) (view : PassView) (room : Room) (made len : ℕ) (b : Bool) → (made == BIRTHS_OF_PASS) ≡ b → (made ≢ BIRTHS_OF_PASS → MakesWithCause l view.pass room made len (by_fit l view.pass room made len room.region (fits_behind room.used len))) → MakesWithCause l view.pass room made len (if b then make.Ended (Refused BirthsSpent) else by_fit l view.pass room made len room.region (fits_behind room.used len))
+spent_cause : (l : Sizes) (view : PassView) (room : Room) (made len : ℕ) (b : Bool) → (made == BIRTHS_OF_PASS) ≡ b → (made ≢ BIRTHS_OF_PASS → MakesWithCause l view.pass room made len (by_fit l view.pass room made len room.region (fits_after room.used len))) → MakesWithCause l view.pass room made len (if b then make.Ended (Refused BirthsSpent) else by_fit l view.pass room made len room.region (fits_after room.used len))
 spent_cause l view room made len true e go = record {
   cause = λ found end is. subst (MakesFor l view.pass room made len (make.Ended (Refused BirthsSpent)) found) (ended_is (Refused BirthsSpent) end found is) (eqb-true made BIRTHS_OF_PASS e);
   at_once = λ spent. refl;
@@ -243,4 +243,4 @@ spent_cause l view room made len false e go = go (eqb-false made BIRTHS_OF_PASS 
 -- the making of an object ends only so
 pub new_cause_of : (l : Sizes) (view : PassView) (room : Room) (made len : ℕ) → IsLayout l → IsPass l view.pass → MakesWithCause l view.pass room made len (new_of l view room made len)
 new_cause_of l view room made len fits pass_is =
-    spent_cause l view room made len (made == BIRTHS_OF_PASS) refl (λ more. fit_cause l view.pass room made len room.region (fits_behind room.used len) fits pass_is more refl refl)
+    spent_cause l view room made len (made == BIRTHS_OF_PASS) refl (λ more. fit_cause l view.pass room made len room.region (fits_after room.used len) fits pass_is more refl refl)

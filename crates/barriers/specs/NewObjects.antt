@@ -7,7 +7,7 @@ use Rattle.heap_words.specs.Layouts.{Sizes, IsLayout, IsRegion, regions_of, regi
 use Rattle.heap_words.specs.PlaceLaws.{regions_of-bound}
 use Rattle.heap_words.specs.declared.limits.TheConstants.{BIRTHS_BETWEEN_PASSES, BIRTHS_OF_PASS, MOST_REGIONS, REGION_WORDS}
 use Rattle.barriers.specs.declared.new_object.TheConstants.{LAST_REGION}
-use Rattle.heap_words.specs.Packing.{fits_behind}
+use Rattle.heap_words.specs.Packing.{fits_after}
 use Rattle.object_headers.specs.declared.header.Header.{Header}
 use Rattle.object_headers.specs.declared.header.State.TheVariants.{Plain}
 use Rattle.object_headers.specs.declared.header.Colour.TheVariants.{Even}
@@ -28,7 +28,7 @@ use Rattle.barriers.specs.declared.new_object.NewPlan.{NewPlan}
 use Rattle.barriers.specs.declared.new_object.NewMachine.{NewMachine}
 use Rattle.barriers.specs.declared.new_object.NewMachine.TheVariants as make
 
--- the birth number of a pass's next object, of which it has made so many
+-- the birth number of a pass's next object, of which it has made this many
 abbrev pub next_birth : ℕ → ℕ → ℕ
 next_birth pass made = pass * BIRTHS_BETWEEN_PASSES + made + 1
 
@@ -36,7 +36,7 @@ next_birth pass made = pass * BIRTHS_BETWEEN_PASSES + made + 1
 abbrev pub new_header : ℕ → ℕ → Header
 new_header len birth = record { state = Plain; colour = Even; len = len; birth = birth; target = 0 }
 
--- the object behind the used words of a region
+-- the object after the used words of a region
 abbrev pub placed : ℕ → ℕ → ℕ → ℕ → ℕ → Option ℕ → Placement
 placed birth len region first used last = record {
   birth = birth;
@@ -74,7 +74,7 @@ abbrev pub new_of : Sizes → PassView → Room → ℕ → ℕ → NewMachine
 new_of l view room made len =
     if made == BIRTHS_OF_PASS
     then make.Ended (Refused BirthsSpent)
-    else by_fit l view.pass room made len room.region (fits_behind room.used len)
+    else by_fit l view.pass room made len room.region (fits_after room.used len)
 
 -- the step that it takes next
 abbrev pub asks_of : NewMachine → Step
@@ -162,7 +162,7 @@ leaving_left : (old : Option ℕ) (placement : Placement) → left_of (leaving_a
 leaving_left None placement = omega arith
 leaving_left (Some at) placement = omega arith
 
--- a claim that goes on has as many steps left, and what comes behind it two at most
+-- a claim that goes on has as many steps left, and what comes after it two at most
 claimed_left : (plan : NewPlan) (claiming : ClaimMachine) → left_of (claimed plan claiming) ≤ claims.left_of claiming + 2
 claimed_left plan (claim.Look round) = omega arith
 claimed_left plan (claim.Claim round) = omega arith

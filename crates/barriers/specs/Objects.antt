@@ -78,7 +78,7 @@ pub record IsMade (seen : List Call) (pass : ℕ) (s : Spot) (t : Task) : Type 0
   pub last : seen ≡ call_of pass s t ∷ before
   pub answer : answer (heap_of_history before) (call_of pass s t) ≡ reply_made t
 
--- the object has so many fields, which are too few
+-- the object has this many fields, which are too few
 abbrev pub IsNoField : List Call → Spot → ℕ → Type 0
 IsNoField h s len = (len_at h s.birth ≡ Some len) × (len ≤ s.field)
 

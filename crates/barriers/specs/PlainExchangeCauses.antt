@@ -36,7 +36,7 @@ one_try swap first second = load swap first ∷ try swap first second ∷ []
 abbrev pub two_tries : Swap → ℕ → ℕ → ℕ → List Taken
 two_tries swap first second third = load swap first ∷ try swap first second ∷ try swap second third ∷ []
 
--- behind the load and two exchanges, the third exchange wanted the one word and found the other, which has the expected value too
+-- after the load and two exchanges, the third exchange wanted the one word and found the other, which has the expected value too
 pub record IsRace (swap : Swap) (last : LastStep) (loaded found : ℕ) : Type 0 where
   pub first : ℕ
   pub second : ℕ
@@ -64,13 +64,13 @@ EndsFor swap last (Refused NotLink) = ⊥
 EndsFor swap last (Refused (NoField len)) = ⊥
 EndsFor swap last (Refused (Busy cycle mark)) = ⊥
 
--- the steps before an exchange that wants this word and behind which so many tries are left
+-- the steps before an exchange that wants this word and after which this many tries are left
 abbrev pub ComesBefore : Swap → ℕ → TriesLeft → List Taken → Type 0
 ComesBefore swap wanted Two earlier = earlier ≡ load swap wanted ∷ []
 ComesBefore swap wanted One earlier = (first : ℕ) × (earlier ≡ one_try swap first wanted)
 ComesBefore swap wanted Zero earlier = (first : ℕ) × ((second : ℕ) × (earlier ≡ two_tries swap first second wanted))
 
--- behind these steps the machine is one of this swap, and what it wants has the expected value
+-- after these steps the machine is one of this swap, and what it wants has the expected value
 abbrev pub IsFor : Swap → List Taken → PlainExchange → Type 0
 IsFor swap earlier (plain.Load its) = (its ≡ swap) × (earlier ≡ [])
 IsFor swap earlier (plain.Try its wanted tries) = (its ≡ swap) × (is_expected swap wanted ≡ true) × ComesBefore swap wanted tries earlier

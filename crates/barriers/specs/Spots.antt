@@ -4,7 +4,7 @@ use Rattle.std.proofs.Common.{arith}
 use Rattle.heap_words.specs.declared.limits.TheConstants.{MOST_FIELDS}
 use Rattle.barriers.specs.declared.spot.Spot.{Spot}
 
--- the field's word is behind the header and the fields before it; no object has more fields than the most
+-- the field's word is after the header and the fields before it; no object has more fields than the most
 abbrev pub spot_of : ℕ → ℕ → ℕ → Spot
 spot_of birth at field = record { birth = birth; at = at; field = field; place = at + 1 + min field MOST_FIELDS }
 

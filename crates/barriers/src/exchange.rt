@@ -62,7 +62,7 @@ pub enum ExchangeMachine {
 /// The steps that a follow takes at most.
 const MOST_TO_FOLLOW: u32 = 4;
 
-// The steps left where the exchange of the word has so many left.
+// The steps left where the exchange of the word has this many left.
 fn with_follow(left: u32) -> u32
     requires { left ≤ 4 }
     ensures value { result ≡ with_follow_of left }

@@ -44,7 +44,7 @@ pub struct NewPlan {
     pub old_at: Option<u32>,
 }
 
-/// Makes an object behind the others of the pass's region. Where it does not fit there, or there is none, a
+/// Makes an object after the others of the pass's region. Where it does not fit there, or there is none, a
 /// region of the pass's own is claimed for it, and the old one is filled. At most `quota + 4` steps.
 #[derive(Clone, Copy, Debug, PartialEq, Eq)]
 pub enum NewMachine {
@@ -63,7 +63,7 @@ pub enum NewMachine {
 const LAST_REGION: u32 = MOST_REGIONS - 1;
 
 impl Placement {
-    // The object behind the used words of a region.
+    // The object after the used words of a region.
     fn new(layout: &Layout, pass: u32, made: u32, len: u32, region: u32, room: Room) -> Placement
         requires layout { IsLayout layout.now }
         requires pass { IsPass layout.now pass }
@@ -241,7 +241,7 @@ impl NewMachine {
         // Whatever others do: the object that it made has the pass's next birth number, its header was stored
         // where it stands, and there it is the last object of the room's region, the one that the pass had or
         // one of its own. The quota is spent only where the object does not fit the pass's region, or there is
-        // none, and each region of the pass's own, so many as the end tells, was found in use: where the pass's
+        // none, and each region of the pass's own, as many as the end tells, was found in use: where the pass's
         // objects have filled them, these and this one need more regions than the quota. The birth numbers are
         // spent only after the last object that a pass makes, and then it has ended at once.
         ensures cause { MakesWithCause layout.now view.pass room made len result }

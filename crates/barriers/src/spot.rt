@@ -7,7 +7,7 @@ ghost use Rattle.barriers.specs.Spots.{spot_of};
 use heap_words::MOST_FIELDS;
 
 /// A field of the object to which a link leads. An object has its header at its address, and its fields
-/// behind that.
+/// after that.
 #[derive(Clone, Copy, Debug, PartialEq, Eq)]
 pub struct Spot {
     /// The object's birth number.

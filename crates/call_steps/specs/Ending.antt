@@ -30,7 +30,7 @@ pub record LastStep : Type 0 where
 abbrev pub up_to : LastStep → List Taken
 up_to last = last.earlier ++ record { step = last.step; found = last.found } ∷ []
 
--- the machine's step, behind these, as the one that finds this word
+-- the machine's step, after these, as the one that finds this word
 abbrev pub step_of : {M : Type 0} → (M → Step) → List Taken → M → ℕ → LastStep
 step_of asks earlier m n = record { earlier = earlier; step = asks m; found = n }
 

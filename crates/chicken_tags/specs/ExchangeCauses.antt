@@ -30,7 +30,7 @@ abbrev pub ExchangeEnds : Errand → Phase → LastStep → ExchangeEnd → Type
 ExchangeEnds errand phase last (exchange_end.Refused (refusal.NoField len)) = LacksField errand.spot last len
 ExchangeEnds errand phase last end = EndsPlaced IsApproach (λ here. ExchangeEndsFor (record errand { spot = here }) phase) errand.spot last end
 
--- behind these steps the machine is an exchange of this field in this phase
+-- after these steps the machine is an exchange of this field in this phase
 abbrev IsExchange : Errand → Phase → List Taken → ChickenExchange → Type 0
 IsExchange errand phase earlier (exchange.Header its in_phase) = (its ≡ errand) × (in_phase ≡ phase) × (earlier ≡ [])
 IsExchange errand phase earlier (exchange.Keep its in_phase keep) = (its ≡ errand) × (in_phase ≡ phase) × (earlier ≡ header_load errand.spot keep.tagged ∷ []) × (nat_lt errand.spot.field (len_at keep.tagged) ≡ true)

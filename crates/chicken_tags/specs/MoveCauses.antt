@@ -34,7 +34,7 @@ MoveEndsFor job headers last (Kept header) = (last.step ≡ Store job.to headers
 abbrev pub MoveEnds : MoveJob → LastStep → MoveEnd → Type 0
 MoveEnds job last end = (headers : MoveHeaders) × (headers_of job ≡ Some headers) × MoveEndsFor job headers last end
 
--- behind these steps the machine is the move of this job
+-- after these steps the machine is the move of this job
 abbrev IsMoveFor : MoveJob → MoveHeaders → List Taken → ChickenMove → Type 0
 IsMoveFor job headers earlier (move.Header its words) = (its ≡ job) × (words ≡ headers)
 IsMoveFor job headers earlier (move.Load its words field) = (its ≡ job) × (words ≡ headers)

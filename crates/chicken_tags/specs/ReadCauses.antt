@@ -25,7 +25,7 @@ abbrev pub ReadEnds : Spot → Phase → LastStep → ReadEnd → Type 0
 ReadEnds spot phase last (read_end.Got held) = EndsPlaced IsApproach (λ here. ReadEndsFor here phase) spot last (read_end.Got held)
 ReadEnds spot phase last (read_end.NoField len) = LacksField spot last len
 
--- behind these steps the machine is a read of this field in this phase
+-- after these steps the machine is a read of this field in this phase
 abbrev IsRead : Spot → Phase → List Taken → ChickenRead → Type 0
 IsRead spot phase earlier (read.Header its in_phase) = (its ≡ spot) × (in_phase ≡ phase) × (earlier ≡ [])
 IsRead spot phase earlier (read.Field m) = PlacedIs IsApproach (λ here. IsReadFor here phase) spot earlier m

@@ -27,7 +27,7 @@ WriteEnds spot word last write_end.Wrote = EndsPlaced IsApproach (λ here. Write
 WriteEnds spot word last (write_end.Refused (refusal.NoField len)) = LacksField spot last len
 WriteEnds spot word last (write_end.Refused why) = ⊥
 
--- behind these steps the machine is a write of this field with this word
+-- after these steps the machine is a write of this field with this word
 abbrev IsWrite : Spot → ℕ → List Taken → ChickenWrite → Type 0
 IsWrite spot word earlier (write.Header its put) = (its ≡ spot) × (put ≡ word) × (earlier ≡ [])
 IsWrite spot word earlier (write.Keep its put keep) = (its ≡ spot) × (put ≡ word) × (earlier ≡ header_load spot keep.tagged ∷ []) × (nat_lt spot.field (len_at keep.tagged) ≡ true)

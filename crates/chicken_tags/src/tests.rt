@@ -77,7 +77,7 @@ fn heap(rt: &impl Abort, alloc: Global, header: u64) -> Result<PlainWords, OutOf
     Ok(words)
 }
 
-// Takes so many steps of the machine, or fewer where it ends before that: how many it took.
+// Takes this many steps of the machine, or fewer where it ends before that: how many it took.
 fn play<M: Machine>(rt: &impl Abort, words: &mut PlainWords, machine: &mut M, most: u32) -> u32 {
     for steps in 0..most {
         let step = machine.ask();

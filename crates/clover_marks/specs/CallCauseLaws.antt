@@ -40,7 +40,7 @@ use Rattle.clover_marks.specs.MarkLaws.{mark_so}
 use Rattle.clover_marks.specs.CallCauses.{header_load, IsAt, try_of, IsFirst, IsThird, IsValue, IsLook, FoundMark, IsHeld, CallEnds}
 use Rattle.clover_marks.specs.CallLooks.{at_load, done, Looked, look_step, counted, third, look}
 
--- ---- what is so of the call behind its steps
+-- ---- what is so of the call after its steps
 
 -- the last of these steps found the mark in the original
 record AgainAt (access : Access) (steps : List Taken) (wanted : ℕ) (next : Option TriesLeft) : Type 0 where

@@ -40,7 +40,7 @@ abbrev pub IsTold : Access → Place → List Taken → Type 0
 IsTold access Original steps = steps ≡ []
 IsTold access (Copy copy) steps = (earlier : List Taken) × (header : ℕ) × (steps ≡ earlier ++ header_load access header ∷ []) × (moved access.spot header ≡ Some copy)
 
--- Behind these steps the call is there, and so many of the steps there were exchanges of the field's word.
+-- After these steps the call is there, and this many of the steps there were exchanges of the field's word.
 pub record IsAt (access : Access) (place : Place) (tries : ℕ) (steps : List Taken) : Type 0 where
   pub before : List Taken
   pub rest : List Taken
@@ -83,7 +83,7 @@ pub record IsBusy (access : Access) (cycle : ℕ) (last : LastStep) (its mark : 
 
 -- ---- Raced
 
--- behind these steps comes the third exchange of the field's word there, which wanted one word and found another, and each serves
+-- after these steps comes the third exchange of the field's word there, which wanted one word and found another, and each serves
 pub record IsThird (access : Access) (place : Place) (steps : List Taken) (loaded found : ℕ) : Type 0 where
   pub at : IsAt access place 2 steps
   pub lost : found ≢ loaded

@@ -49,7 +49,7 @@ at_try access place tries last want put is at =
 
 -- ---- a look at the field's word
 
--- how many exchanges are done with so many tries left
+-- how many exchanges are done with this many tries left
 abbrev pub done : TriesLeft → ℕ
 done Two = 0
 done One = 1

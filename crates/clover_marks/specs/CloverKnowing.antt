@@ -88,7 +88,7 @@ pub record IsAccess (v : PassView) (access : Access) : Type 0 where
   pub phase : IsPhase v access.phase
   pub packed : IsPackedAction access.action
 
--- after its header: there are so many fields
+-- after its header: there are this many fields
 pub record IsBegun (v : PassView) (access : Access) : Type 0 where
   pub its : IsAccess v access
   pub few : access.spot.field < MOST_FIELDS

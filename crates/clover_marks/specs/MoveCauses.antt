@@ -51,7 +51,7 @@ MoveEnds job mark last (Kept header) = ⊥
 
 -- ---- that it is so
 
--- behind these steps the last one put this word in the copy
+-- after these steps the last one put this word in the copy
 pub record HasPut (r : Relocation) (field word : ℕ) (steps : List Taken) : Type 0 where
   pub before : List Taken
   pub found : ℕ

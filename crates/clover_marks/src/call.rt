@@ -464,7 +464,7 @@ impl Machine for CloverCall {
 /// The steps that a follow takes at most.
 const MOST_TO_FOLLOW: u32 = 4;
 
-// The steps left with so many tries left in the copy.
+// The steps left with this many tries left in the copy.
 fn left_in_copy(tries: TriesLeft) -> u32
     ensures { result ≡ calls.left_in_copy tries }
 {

@@ -4,7 +4,7 @@ use Rattle.std.proofs.lemmas.Bool.Decides.{nat_tests}
 use Rattle.std.specs.List.{filter, flat_map, range_with_len}
 use Rattle.std.proofs.lemmas.Grind.{flat_map-append}
 use Rattle.object_headers.specs.Headers.{header_at}
-use Rattle.cycle_journal.specs.LastHeaps.{Line, Found, found_at, behind, is_over, is_live, line_at, left_at, objects_from}
+use Rattle.cycle_journal.specs.LastHeaps.{Line, Found, found_at, next_after, is_over, is_live, line_at, left_at, objects_from}
 
 module _ (words : List ℕ) (end : ℕ) where
   pub over_at_end : (at : ℕ) → end ≤ at → is_over words end at ≡ true
@@ -31,16 +31,16 @@ module _ (words : List ℕ) (end : ℕ) where
   unfolding objects_from
   enough_from zero m at few many = sym (none_from m at (over_at_end at (omega arith)))
   enough_from (suc n) zero at few many = none_from (suc n) at (over_at_end at (omega arith))
-  enough_from (suc n) (suc m) at few many = same_rest at (is_over words end at) (objects_from words end n (behind words at)) (objects_from words end m (behind words at)) (enough_from n m (behind words at) (omega arith) (omega arith))
+  enough_from (suc n) (suc m) at few many = same_rest at (is_over words end at) (objects_from words end n (next_after words at)) (objects_from words end m (next_after words at)) (enough_from n m (next_after words at) (omega arith) (omega arith))
 
-  one_from : (n at : ℕ) → at < end → slice_index words at ≢ 0 → end ≤ at + suc n → objects_from words end (suc n) at ≡ found_at words at ∷ objects_from words end (end - behind words at) (behind words at)
+  one_from : (n at : ℕ) → at < end → slice_index words at ≢ 0 → end ≤ at + suc n → objects_from words end (suc n) at ≡ found_at words at ∷ objects_from words end (end - next_after words at) (next_after words at)
   unfolding objects_from
   one_from n at below some few =
       let on : is_over words end at ≡ false = on_at at below some in
-      rw on (ap (λ (rest : List Found). found_at words at ∷ rest) (enough_from n (end - behind words at) (behind words at) (omega arith) (omega arith)))
+      rw on (ap (λ (rest : List Found). found_at words at ∷ rest) (enough_from n (end - next_after words at) (next_after words at) (omega arith) (omega arith)))
 
   -- the object at an address, and then those after it
-  pub more_from : (at : ℕ) → at < end → slice_index words at ≢ 0 → objects_from words end (end - at) at ≡ found_at words at ∷ objects_from words end (end - behind words at) (behind words at)
+  pub more_from : (at : ℕ) → at < end → slice_index words at ≢ 0 → objects_from words end (end - at) at ≡ found_at words at ∷ objects_from words end (end - next_after words at) (next_after words at)
   more_from at below some =
       let left : end - at ≡ suc (end - at - 1) = omega arith in
       rw left (one_from (end - at - 1) at below some (omega arith))
@@ -56,16 +56,16 @@ module _ (words : List ℕ) (end : ℕ) where
   left_first at rest true is = rw is refl
   left_first at rest false is = rw is refl
 
-  pub more_left : (at : ℕ) → at < end → slice_index words at ≢ 0 → left_from at ≡ left_at words at ++ left_from (behind words at)
+  pub more_left : (at : ℕ) → at < end → slice_index words at ≢ 0 → left_from at ≡ left_at words at ++ left_from (next_after words at)
   more_left at below some =
-      rw (more_from at below some) (left_first at (objects_from words end (end - behind words at) (behind words at)) (is_live (header_at (slice_index words at)).state) refl)
+      rw (more_from at below some) (left_first at (objects_from words end (end - next_after words at) (next_after words at)) (is_live (header_at (slice_index words at)).state) refl)
 
   -- what was told, and what is still to be told from an address on, stays the same over the object there
-  pub tells_on : (old new all : List Line) (at next : ℕ) → next ≡ behind words at → at < end → slice_index words at ≢ 0 → new ≡ old ++ left_at words at → old ++ left_from at ≡ all → new ++ left_from next ≡ all
+  pub tells_on : (old new all : List Line) (at next : ℕ) → next ≡ next_after words at → at < end → slice_index words at ≢ 0 → new ≡ old ++ left_at words at → old ++ left_from at ≡ all → new ++ left_from next ≡ all
   tells_on old new all at next is below some more told =
-      let first : new ++ left_from next ≡ (old ++ left_at words at) ++ left_from (behind words at) = rw (is, more) refl in
-      let rest : left_at words at ++ left_from (behind words at) ≡ left_from at = sym (more_left at below some) in
-      first ∙ (append_assoc old (left_at words at) (left_from (behind words at)) ∙ (ap (λ (b : List Line). old ++ b) rest ∙ told))
+      let first : new ++ left_from next ≡ (old ++ left_at words at) ++ left_from (next_after words at) = rw (is, more) refl in
+      let rest : left_at words at ++ left_from (next_after words at) ≡ left_from at = sym (more_left at below some) in
+      first ∙ (append_assoc old (left_at words at) (left_from (next_after words at)) ∙ (ap (λ (b : List Line). old ++ b) rest ∙ told))
 
   -- where no object stands, all is told
   pub told_all : (told all : List Line) (at : ℕ) → is_over words end at ≡ true → told ++ left_from at ≡ all → told ≡ all

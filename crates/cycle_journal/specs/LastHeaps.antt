@@ -33,8 +33,8 @@ abbrev pub found_at : List ℕ → ℕ → Found
 found_at words at = record { at = at; header = header_at (slice_index words at) }
 
 -- the address after it
-abbrev pub behind : List ℕ → ℕ → ℕ
-behind words at = at + (header_at (slice_index words at)).len + 1
+abbrev pub next_after : List ℕ → ℕ → ℕ
+next_after words at = at + (header_at (slice_index words at)).len + 1
 
 -- no object stands at an address: it is the end, or its word is 0
 abbrev pub is_over : List ℕ → ℕ → ℕ → Bool
@@ -44,7 +44,7 @@ is_over words end at = nat_le end at || slice_index words at == 0
 unfoldable pub objects_from : List ℕ → ℕ → ℕ → ℕ → List Found
 objects_from words end zero at = []
 objects_from words end (suc n) at =
-    if is_over words end at then [] else found_at words at ∷ objects_from words end n (behind words at)
+    if is_over words end at then [] else found_at words at ∷ objects_from words end n (next_after words at)
 
 -- all objects of a region, whose words are the most that it can have
 abbrev pub objects_in : Sizes → List ℕ → ℕ → List Found

@@ -16,7 +16,7 @@ use Rattle.handshakes.specs.declared.poll.PollMachine.{PollMachine}
 use Rattle.handshakes.specs.declared.poll.PollMachine.TheVariants as poll
 use Rattle.handshakes.specs.PhaseWords.{phase_word_at, retired_word}
 use Rattle.handshakes.specs.Follows.{place_by}
-use Rattle.handshakes.specs.Polls.{poll_of, asks_of, fed_of, follow_from, begin_by, followed, behind, ended}
+use Rattle.handshakes.specs.Polls.{poll_of, asks_of, fed_of, follow_from, begin_by, followed, rest_after, ended}
 use Rattle.handshakes.specs.Handshakes.{Announced, AllAnswer, Advances, IsInHand}
 use Rattle.handshakes.specs.HandshakeLaws.{announced_stays}
 use Rattle.handshakes.specs.Polling.{Polled, mark_by, said_to, held_in, AreFollowed, HaveAnswered, IsPollWith, IsPollOf, IsFollowedAt, IsPolling, IsRunning, PollFinds, poll_step}
@@ -148,10 +148,10 @@ module _ (R : FieldWord → FieldWord → Type 0) (nums : (n : ℕ) → R (Num n
 
     -- the header of a register's object was loaded
     went : (p : Poll) (word register birth at next : ℕ) → IsPollWith x p word → IsFollowedAt R x p register birth at → R (Link birth at) (Link birth next)
-        → IsPolling R x (follow_from (followed p register birth next) word (register + 1) (behind (followed p register birth next) register))
+        → IsPolling R x (follow_from (followed p register birth next) word (register + 1) (rest_after (followed p register birth next) register))
     went p word register birth at next is here becomes =
         let with : IsPollWith x (followed p register birth next) word = record { mark_at_is = is.mark_at_is; ack_at_is = is.ack_at_is; view_is = is.view_is; announced_is = is.announced_is; acked_not = is.acked_not } in
-        follows_from (followed p register birth next) word with here.fix (behind (followed p register birth next) register) (register + 1) refl
+        follows_from (followed p register birth next) word with here.fix (rest_after (followed p register birth next) register) (register + 1) refl
         (followed_link x.registers p.registers register birth at next here.followed here.small here.link becomes)
 
     -- the acknowledgement was stored

@@ -53,9 +53,9 @@ begin_by Retired round p word = poll.Acknowledge p word p.view.mark
 abbrev pub followed : Poll → ℕ → ℕ → ℕ → Poll
 followed p register birth at = record p { registers = slice_set p.registers register (Link birth at) }
 
--- the registers behind a register
-abbrev pub behind : Poll → ℕ → List FieldWord
-behind p register = drop (register + 1) p.registers
+-- the registers after a register
+abbrev pub rest_after : Poll → ℕ → List FieldWord
+rest_after p register = drop (register + 1) p.registers
 
 -- it goes on with this view and these registers
 abbrev pub ended : PassView → List FieldWord → PollMachine
@@ -69,7 +69,7 @@ fed_of (poll.Phase p) found =
 fed_of (poll.Mark p word) found = poll.Acknowledge p word found
 fed_of (poll.Follow p word register birth at) found =
     let q : Poll = followed p register birth (place_by (header_at found) at) in
-    follow_from q word (register + 1) (behind q register)
+    follow_from q word (register + 1) (rest_after q register)
 fed_of (poll.Acknowledge p word mark) found = ended (record { pass = p.view.pass; acked = word; mark = mark }) p.registers
 fed_of (poll.Ended e) found = poll.Ended e
 
@@ -128,10 +128,10 @@ phase-left : (p : Poll) (found : ℕ) (same : Bool) → left_of (if same then en
 phase-left p found true = omega arith
 phase-left p found false = begin_by-left (phase_word_at found).phase (phase_word_at found).round p found
 
-followed-left : (q : Poll) (word register size : ℕ) → length q.registers ≡ size → left_of (follow_from q word (register + 1) (behind q register)) < size - (register + 1) + 2
+followed-left : (q : Poll) (word register size : ℕ) → length q.registers ≡ size → left_of (follow_from q word (register + 1) (rest_after q register)) < size - (register + 1) + 2
 followed-left q word register size is =
-    let rest : length (behind q register) ≡ size - (register + 1) = omega (arith, length-drop (register + 1) q.registers) in
-    omega (arith, follow_from-left q word (register + 1) (behind q register) (omega arith))
+    let rest : length (rest_after q register) ≡ size - (register + 1) = omega (arith, length-drop (register + 1) q.registers) in
+    omega (arith, follow_from-left q word (register + 1) (rest_after q register) (omega arith))
 
 pub falls_of : (m : PollMachine) (n : ℕ) → asks_of m ≢ Ended → left_of (fed_of m n) < left_of m
 falls_of (poll.Phase p) n on = phase-left p n (n == p.view.acked)

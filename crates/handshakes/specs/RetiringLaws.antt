@@ -24,7 +24,7 @@ none_stored l m pass registers i small = absurd (omega (arith, small))
 
 -- it never has more than there are
 pub stored_few : (m : RetireMachine) → stored_by m ≤ REGISTERS
-stored_few (retire.Root r behind) = omega arith
+stored_few (retire.Root r later) = omega arith
 stored_few (retire.Region r at) = omega arith
 stored_few (retire.Acknowledge r) = omega arith
 stored_few retire.Ended = omega arith
@@ -41,9 +41,9 @@ word_at (x ∷ xs) (suc i) small = word_at xs i (omega (arith, small))
 
 -- its step is on one of these words
 pub retire_asks : (l : Sizes) (x : Leaving) (m : RetireMachine) → length x.registers ≡ REGISTERS → IsRetiring l x m → asks_of m ≡ retire_step l x m
-retire_asks l x (retire.Root r behind) eight is =
-    let place : root_at l x.pass (REGISTERS - 1) - behind ≡ root_at l x.pass (register_before behind) = omega (arith, is.1) in
-    rw (is.0, place, word_at x.registers (register_before behind) (omega (arith, eight))) refl
+retire_asks l x (retire.Root r later) eight is =
+    let place : root_at l x.pass (REGISTERS - 1) - later ≡ root_at l x.pass (register_before later) = omega (arith, is.1) in
+    rw (is.0, place, word_at x.registers (register_before later) (omega (arith, eight))) refl
 retire_asks l x (retire.Region r at) eight is = refl
 retire_asks l x (retire.Acknowledge r) eight is = rw is refl
 retire_asks l x retire.Ended eight is = refl
@@ -54,13 +54,13 @@ all_stored_next : (l : Sizes) (x : Leaving) (r : Retire) (at : Option ℕ) → r
 all_stored_next l x r None is e = is
 all_stored_next l x r (Some at) is e = (is, e)
 
-root_next : (l : Sizes) (x : Leaving) (r : Retire) (behind : ℕ) → r ≡ retire_of l x.pass x.registers x.region → behind < REGISTERS → (last : Bool) → IsRetiring l x (if last then stored_all r r.region_at else retire.Root r (behind - 1))
-root_next l x r behind is most true = all_stored_next l x r r.region_at is (sym (ap (λ (q : Retire). q.region_at) is))
-root_next l x r behind is most false = (is, omega arith)
+root_next : (l : Sizes) (x : Leaving) (r : Retire) (later : ℕ) → r ≡ retire_of l x.pass x.registers x.region → later < REGISTERS → (last : Bool) → IsRetiring l x (if last then stored_all r r.region_at else retire.Root r (later - 1))
+root_next l x r later is most true = all_stored_next l x r r.region_at is (sym (ap (λ (q : Retire). q.region_at) is))
+root_next l x r later is most false = (is, omega arith)
 
 -- each step of a retirement
 pub retire_goes_on : (l : Sizes) (x : Leaving) (m : RetireMachine) (found : ℕ) → IsRetiring l x m → IsRetiring l x (fed_of m found)
-retire_goes_on l x (retire.Root r behind) found is = root_next l x r behind is.0 is.1 (behind == 0)
+retire_goes_on l x (retire.Root r later) found is = root_next l x r later is.0 is.1 (later == 0)
 retire_goes_on l x (retire.Region r at) found is = is.0
 retire_goes_on l x (retire.Acknowledge r) found is = tt
 retire_goes_on l x retire.Ended found is = tt
@@ -84,19 +84,19 @@ module _ (l : Sizes) (m n : ℕ → ℕ) (pass : ℕ) (registers : List FieldWor
   stored_apart count at word apart few put stored = stored_stays count few (λ i small. put.elsewhere (root_at l pass i) (apart i small)) stored
 
 -- the next register is stored, or all are
-stored_next : (l : Sizes) (n : ℕ → ℕ) (pass : ℕ) (registers : List FieldWord) (r : Retire) (behind : ℕ) → behind < REGISTERS → AreStored l n pass registers (register_before behind + 1) → (last : Bool) → (behind == 0) ≡ last
-    → AreStored l n pass registers (stored_by (if last then stored_all r r.region_at else retire.Root r (behind - 1)))
-stored_next l n pass registers r behind most stored true e =
-    let all : register_before behind + 1 ≡ REGISTERS = omega (arith, eqb-true behind 0 e) in
+stored_next : (l : Sizes) (n : ℕ → ℕ) (pass : ℕ) (registers : List FieldWord) (r : Retire) (later : ℕ) → later < REGISTERS → AreStored l n pass registers (register_before later + 1) → (last : Bool) → (later == 0) ≡ last
+    → AreStored l n pass registers (stored_by (if last then stored_all r r.region_at else retire.Root r (later - 1)))
+stored_next l n pass registers r later most stored true e =
+    let all : register_before later + 1 ≡ REGISTERS = omega (arith, eqb-true later 0 e) in
     let by : (at : Option ℕ) → stored_by (stored_all r at) ≡ REGISTERS = stored_all_is r in
     subst (AreStored l n pass registers) (all ∙ sym (by r.region_at)) stored
   where
     stored_all_is : (r : Retire) (at : Option ℕ) → stored_by (stored_all r at) ≡ REGISTERS
     stored_all_is r None = refl
     stored_all_is r (Some at) = refl
-stored_next l n pass registers r behind most stored false e =
-    let some : behind ≢ 0 = λ none. absurd (cc (eq-eqb behind 0 none, e)) in
-    let more : register_before behind + 1 ≡ register_before (behind - 1) = omega (arith, some, most) in
+stored_next l n pass registers r later most stored false e =
+    let some : later ≢ 0 = λ none. absurd (cc (eq-eqb later 0 none, e)) in
+    let more : register_before later + 1 ≡ register_before (later - 1) = omega (arith, some, most) in
     subst (AreStored l n pass registers) more stored
 
 -- the words of regions come after the root words
@@ -109,8 +109,8 @@ region_is_apart l pass i (Some region) at there small e same =
 -- after its step, as many root words hold their registers' words as it says
 pub retire_stores : (l : Sizes) (x : Leaving) (k : RetireMachine) (found : ℕ) (m n : ℕ → ℕ) → IsPass l x.pass → IsRetiring l x k → Put m n (place_of (retire_step l x k)) (put_by (retire_step l x k) (m (place_of (retire_step l x k))))
     → AreStored l m x.pass x.registers (stored_by k) → AreStored l n x.pass x.registers (stored_by (fed_of k found))
-retire_stores l x (retire.Root r behind) found m n there is put stored =
-    stored_next l n x.pass x.registers r behind is.1 (stored_more l m n x.pass x.registers (register_before behind) put stored) (behind == 0) refl
+retire_stores l x (retire.Root r later) found m n there is put stored =
+    stored_next l n x.pass x.registers r later is.1 (stored_more l m n x.pass x.registers (register_before later) put stored) (later == 0) refl
 retire_stores l x (retire.Region r at) found m n there is put stored =
     stored_apart l m n x.pass x.registers REGISTERS at filled_word (λ i small. region_is_apart l x.pass i x.region at there small is.1) (omega arith) put stored
 retire_stores l x (retire.Acknowledge r) found m n there is put stored =

@@ -63,7 +63,7 @@ pub enum PollMachine {
 
 impl Poll {
     ghost use Rattle.std.specs.Prelude.{◌-◌};
-    ghost use Rattle.handshakes.specs.Polls.{follow_from, followed, behind, begin_by, ended};
+    ghost use Rattle.handshakes.specs.Polls.{follow_from, followed, rest_after, begin_by, ended};
 
     /// Follows the first link of the registers from this one on, or goes on to the acknowledgement.
     fn follow_from(&self, word: u64, first: usize) -> PollMachine
@@ -94,9 +94,9 @@ impl Poll {
         next
     }
 
-    /// Goes on behind a register.
-    fn follow_behind(&self, word: u64, register: u32) -> PollMachine
-        ensures { result ≡ follow_from self.now word (register + 1) (behind self.now register) }
+    /// Goes on after a register.
+    fn follow_after(&self, word: u64, register: u32) -> PollMachine
+        ensures { result ≡ follow_from self.now word (register + 1) (rest_after self.now register) }
     {
         self.follow_from(word, register as usize + 1)
     }
@@ -127,8 +127,8 @@ impl Poll {
         (REGISTERS as u32).saturating_sub(first) + 2
     }
 
-    /// The same with those behind a register.
-    fn left_behind(&self, register: u32) -> u32
+    /// The same with those after a register.
+    fn left_after(&self, register: u32) -> u32
         ensures { result ≡ length self.now.registers - (register + 1) + 2 }
     {
         self.left_from(register.saturating_add(1))
@@ -218,7 +218,7 @@ impl Machine for PollMachine {
                 at,
             } => poll
                 .followed(register, birth, place_by(found, at))
-                .follow_behind(word, register),
+                .follow_after(word, register),
             PollMachine::Acknowledge { poll, word, mark } => poll.ended(PassView {
                 pass: poll.view.pass,
                 acked: word,
@@ -244,7 +244,7 @@ impl CallMachine for PollMachine {
         match *self {
             PollMachine::Phase(poll) => poll.left_from(0) + 1,
             PollMachine::Mark { .. } => 2,
-            PollMachine::Follow { poll, register, .. } => poll.left_behind(register),
+            PollMachine::Follow { poll, register, .. } => poll.left_after(register),
             PollMachine::Acknowledge { .. } => 1,
             PollMachine::Ended(_) => 0,
         }

@@ -27,8 +27,8 @@ pub struct Retire {
 /// has one; and at last Retired in its acknowledgement.
 #[derive(Clone, Copy, Debug, PartialEq, Eq)]
 pub enum RetireMachine {
-    /// Stores the register behind which so many come.
-    Root { retire: Retire, behind: u16 },
+    /// Stores the register after which this many come.
+    Root { retire: Retire, later: u16 },
     /// Stores Filled at the address.
     Region { retire: Retire, at: u32 },
     /// Stores Retired in the acknowledgement.
@@ -54,11 +54,11 @@ fn words_of(registers: [FieldWord; REGISTERS]) -> [u64; REGISTERS]
     words
 }
 
-/// A bound on the steps that are left with a register behind which so many come.
-fn left_with(behind: u16) -> u32
-    ensures { result ≡ behind + 3 }
+/// A bound on the steps that are left with a register after which this many come.
+fn left_with(later: u16) -> u32
+    ensures { result ≡ later + 3 }
 {
-    u32::from(behind) + 3
+    u32::from(later) + 3
 }
 
 impl Retire {
@@ -66,13 +66,13 @@ impl Retire {
     ghost use Rattle.call_steps.specs.declared.step.Step.TheVariants.{Store};
     ghost use Rattle.handshakes.specs.Retires.{register_before, stored_all};
 
-    /// The store of the register behind which so many come.
-    fn root(&self, behind: u16) -> Step
-        ensures { result ≡ Store (self.now.last_root_at - behind) (slice_index self.now.words (register_before behind)) }
+    /// The store of the register after which this many come.
+    fn root(&self, later: u16) -> Step
+        ensures { result ≡ Store (self.now.last_root_at - later) (slice_index self.now.words (register_before later)) }
     {
         Step::Store {
-            at: self.last_root_at.saturating_sub(u32::from(behind)),
-            put: self.words[(REGISTERS - 1).saturating_sub(usize::from(behind))],
+            at: self.last_root_at.saturating_sub(u32::from(later)),
+            put: self.words[(REGISTERS - 1).saturating_sub(usize::from(later))],
         }
     }
 
@@ -117,7 +117,7 @@ impl RetireMachine {
         };
         RetireMachine::Root {
             retire,
-            behind: LAST_REGISTER,
+            later: LAST_REGISTER,
         }
     }
 
@@ -145,7 +145,7 @@ impl Machine for RetireMachine {
 
     fn ask(&self) -> Step {
         match *self {
-            RetireMachine::Root { retire, behind } => retire.root(behind),
+            RetireMachine::Root { retire, later } => retire.root(later),
             RetireMachine::Region { at, .. } => Step::Store { at, put: FILLED },
             RetireMachine::Acknowledge(retire) => Step::Store {
                 at: retire.ack_at,
@@ -157,9 +157,9 @@ impl Machine for RetireMachine {
 
     fn feed(&mut self, _found: u64) {
         *self = match *self {
-            RetireMachine::Root { retire, behind } if behind > 0 => RetireMachine::Root {
+            RetireMachine::Root { retire, later } if later > 0 => RetireMachine::Root {
                 retire,
-                behind: behind - 1,
+                later: later - 1,
             },
             RetireMachine::Root { retire, .. } => retire.stored_all(),
             RetireMachine::Region { retire, .. } => RetireMachine::Acknowledge(retire),
@@ -181,7 +181,7 @@ impl CallMachine for RetireMachine {
 
     fn left(&self) -> u32 {
         match *self {
-            RetireMachine::Root { behind, .. } => left_with(behind),
+            RetireMachine::Root { later, .. } => left_with(later),
             RetireMachine::Region { .. } => 2,
             RetireMachine::Acknowledge(_) => 1,
             RetireMachine::Ended => 0,

@@ -75,7 +75,7 @@ next_change n place (e ∷ es) rising counts some =
     next_change_step n place e es (is_change e.reply) refl rising.0 counts some (λ less more. next_change n (place_of e) es rising.1 less more)
 
 -- a look between the changes n and n + 1, where there are as many after it
-look_front : (n front behind : ℕ) → n ≤ front → front ≤ n + behind → (0 < behind → front ≤ n) → front ≡ n
+look_front : (n front beyond : ℕ) → n ≤ front → front ≤ n + beyond → (0 < beyond → front ≤ n) → front ≡ n
 look_front n front zero least most next = omega arith
 look_front n front (suc k) least most next = omega (arith, next (omega arith))
 
@@ -102,7 +102,7 @@ placed_rising n place total [] low all rising counts within = tt
 placed_rising n place total (e ∷ es) low all rising counts within =
     let P : Ended → Type 0 = λ d. d.front ≤ total in
     placed_step n place total e es (is_change e.reply) refl low all rising counts (All-head P e es within)
-    (λ m next less sum more behind. placed_rising m next total es less sum more behind (All-tail P e es within))
+    (λ m next less sum more beyond. placed_rising m next total es less sum more beyond (All-tail P e es within))
 
 -- how many changes each call saw
 pub fronts_within : (log : List Ended) → IsLog log → All (λ (e : Ended). e.front ≤ length (changes_of log)) log
@@ -130,9 +130,9 @@ seen_counted n e false is front =
     omega (arith, same, seen)
 
 -- the heap that it saw is the heap there
-heap_there : (before behind history : List Call) (n : ℕ) → n ≡ length before → history ≡ before ++ behind → heap_at history n ≡ heap_after opening before
-heap_there before behind history n number all =
-    ap (λ h. heap_at h n) all ∙ ap (heap_at (before ++ behind)) number ∙ heap_at-append before behind (length before) (omega arith) ∙ heap_at-length before
+heap_there : (before beyond history : List Call) (n : ℕ) → n ≡ length before → history ≡ before ++ beyond → heap_at history n ≡ heap_after opening before
+heap_there before beyond history n number all =
+    ap (λ h. heap_at h n) all ∙ ap (heap_at (before ++ beyond)) number ∙ heap_at-append before beyond (length before) (omega arith) ∙ heap_at-length before
 
 accepted_step : (before history : List Call) (n : ℕ) (e : Ended) (es : List Ended) (test : Bool) → is_change e.reply ≡ test → n ≡ length before → history ≡ before ++ changes_of (e ∷ es)
     → answer (heap_after opening before) e.call ≡ e.reply → IsPlaced (counted n e.reply) es
@@ -157,7 +157,7 @@ placed_accepted before history n (e ∷ es) number all placed answered =
     ap (heap_at history) (seen_counted n e (is_change e.reply) refl placed.0) ∙ heap_there before (changes_of (e ∷ es)) history n number all in
     let told : answer (heap_after opening before) e.call ≡ e.reply = ap (λ heap. answer heap e.call) (sym heap) ∙ here.reply in
     let rest = All-tail (HasReply history) e es answered in
-    (told, here.there, accepted_step before history n e es (is_change e.reply) refl number all told placed.1 (λ first m more joined behind. placed_accepted first history m es more joined behind rest))
+    (told, here.there, accepted_step before history n e es (is_change e.reply) refl number all told placed.1 (λ first m more joined beyond. placed_accepted first history m es more joined beyond rest))
 
 -- The heap accepts the shown history.
 pub accepted-shown : (log : List Ended) → IsLog log → IsAccepted opening (shown log)
@@ -221,8 +221,8 @@ module _ (pass : ℕ) (e : Ended) (es : List Ended) (before history : List Call)
   longer : n + 1 ≡ length (before ++ e.call ∷ [])
   longer = omega (arith, number, length-append before (e.call ∷ []))
 
-  behind : (k : ℕ) → k ≤ n + 1 → made_by pass (drop k (before ++ e.call ∷ [])) ≡ [] → Follows history pass k (of_pass pass es)
-  behind k below made =
+  beyond : (k : ℕ) → k ≤ n + 1 → made_by pass (drop k (before ++ e.call ∷ [])) ≡ [] → Follows history pass k (of_pass pass es)
+  beyond k below made =
       let P : Heap → Type 0 = λ heap. IsAccepted heap (entries_of es) in
       let Q : ℕ → Type 0 = λ i. IsPlaced i es in
       rest (before ++ e.call ∷ []) history k (n + 1) longer joined below made (subst P (sym (heap_after-append opening before (e.call ∷ []))) accepted.2) (subst Q grown placed.1)
@@ -236,12 +236,12 @@ module _ (pass : ℕ) (e : Ended) (es : List Ended) (before history : List Call)
           let next : IsNext (before ++ e.call ∷ []) pass m e = IsNext-change before pass m e same is (omega (arith, low, number)) (omega (arith, front, number)) none accepted.0 in
           let here : IsNext history pass m e = subst (λ h. IsNext h pass m e) (sym joined) (IsNext-append (before ++ e.call ∷ []) (changes_of es) pass m e next) in
           let nothing : made_by pass (drop e.front (before ++ e.call ∷ [])) ≡ [] = ap (λ k. made_by pass (drop k (before ++ e.call ∷ []))) (front ∙ longer) ∙ ap (made_by pass) (drop-length (before ++ e.call ∷ [])) in
-          subst (Follows history pass m) (sym (own-call pass e es same)) (here, behind e.front (omega (arith, front)) nothing)
+          subst (Follows history pass m) (sym (own-call pass e es same)) (here, beyond e.front (omega (arith, front)) nothing)
 
       other : pass_of e.call ≢ pass → Follows history pass m (of_pass pass (e ∷ es))
       other apart =
           subst (Follows history pass m) (sym (other-call pass e es apart))
-          (behind m (omega (arith, low)) (made_by-push pass m before e.call (omega (arith, low, number)) none ∙ made_by-other pass e.call apart))
+          (beyond m (omega (arith, low)) (made_by-push pass m before e.call (omega (arith, low, number)) none ∙ made_by-other pass e.call apart))
 
 -- a look first
 module _ (pass : ℕ) (e : Ended) (es : List Ended) (before history : List Call) (m n : ℕ) (is : is_change e.reply ≡ false) (number : n ≡ length before) (all : history ≡ before ++ changes_of (e ∷ es)) (low : m ≤ n)

@@ -15,20 +15,20 @@ use Rattle.heap_script.specs.Grammar.{◌>>=◌, Heading, Fault, heading, heap_l
 use Rattle.heap_script.specs.declared.fault.ReadScriptFault.{ReadScriptFault}
 use Rattle.heap_script.specs.declared.fault.ReadScriptFault.TheVariants as faults
 use Rattle.heap_script.specs.Gives.{IsAnswer, IfScriptFault}
-use Rattle.heap_script.specs.FirstFault.{said, fault_of, fault_behind, fault_at, NoFaultBefore, IsFirstFault, IsFault, Says, IsScript}
+use Rattle.heap_script.specs.FirstFault.{said, fault_of, fault_after, fault_at, NoFaultBefore, IsFirstFault, IsFault, Says, IsScript}
 
 at_seam : (before after : List (List ℕ)) (line : List ℕ) → get_or (before ++ line ∷ after) (length before) [] ≡ line
 at_seam [] after line = refl
 at_seam (b ∷ before) after line = at_seam before after line
 
-pub fault_seam : (before after : List (List ℕ)) (line : List ℕ) → fault_at (before ++ line ∷ after) (length before) ≡ fault_behind (said before) line
+pub fault_seam : (before after : List (List ℕ)) (line : List ℕ) → fault_at (before ++ line ∷ after) (length before) ≡ fault_after (said before) line
 fault_seam before after line = rw (take_at before (line ∷ after) (length before) refl, at_seam before after line) refl
 
 said_push : (before : List (List ℕ)) (line : List ℕ) → said (before ++ line ∷ []) ≡ said before ++ said (line ∷ [])
 said_push before line = ap (filter (λ ws. not (is_passed_over ws))) (map-append words before (line ∷ [])) ∙ filter-append (λ ws. not (is_passed_over ws)) (map words before) (words line ∷ [])
 
 -- one line more without a fault
-pub no_fault_push : (before after : List (List ℕ)) (line : List ℕ) → NoFaultBefore (before ++ line ∷ after) (length before) → fault_behind (said before) line ≡ None
+pub no_fault_push : (before after : List (List ℕ)) (line : List ℕ) → NoFaultBefore (before ++ line ∷ after) (length before) → fault_after (said before) line ≡ None
     → NoFaultBefore ((before ++ line ∷ []) ++ after) (length (before ++ line ∷ []))
 no_fault_push before after line h here =
     let len : length (before ++ line ∷ []) ≡ length before + 1 = omega (arith, length-append before (line ∷ [])) in
@@ -69,13 +69,13 @@ command_line_some passes count line c e =
 
 -- ---- the lines after the heap line
 
-record Behind (heap : Heading) (count : ℕ) (before : List (List ℕ)) (h : List Word) (cs : List (List Word)) : Type 0 where
+record StandsAfter (heap : Heading) (count : ℕ) (before : List (List ℕ)) (h : List Word) (cs : List (List Word)) : Type 0 where
   said_is : said before ≡ h ∷ cs
   heading_is : heading h ≡ Ok heap
   count_is : length cs ≡ count
 
 fault_command : (heap : Heading) (count : ℕ) (before : List (List ℕ)) (h : List Word) (cs : List (List Word)) (line : List ℕ) (r : Result (Option Line) FaultKind)
-    → Behind heap count before h cs → command_line heap.0.passes count line ≡ r → fault_behind (said before) line ≡ fault_of r
+    → StandsAfter heap count before h cs → command_line heap.0.passes count line ≡ r → fault_after (said before) line ≡ fault_of r
 fault_command heap count before h cs line r b e =
     let s = b.said_is in
     let k = b.heading_is in
@@ -89,15 +89,15 @@ record Commands (passes : ℕ) (h : List Word) (cs : List (List Word)) (all : Li
   said_is : said all ≡ h ∷ (cs ++ more)
   reads : map (command passes) more ≡ map (λ c. Ok c) found
 
-behind_pass : (heap : Heading) (count : ℕ) (before : List (List ℕ)) (h : List Word) (cs : List (List Word)) (line : List ℕ) → Behind heap count before h cs → said (line ∷ []) ≡ [] → Behind heap count (before ++ line ∷ []) h cs
-behind_pass heap count before h cs line b e = record {
+after_pass : (heap : Heading) (count : ℕ) (before : List (List ℕ)) (h : List Word) (cs : List (List Word)) (line : List ℕ) → StandsAfter heap count before h cs → said (line ∷ []) ≡ [] → StandsAfter heap count (before ++ line ∷ []) h cs
+after_pass heap count before h cs line b e = record {
   said_is = said_push before line ∙ ap (λ (x : List (List Word)). said before ++ x) e ∙ append-nil (said before) ∙ b.said_is;
   heading_is = b.heading_is;
   count_is = b.count_is;
 }
 
-behind_one : (heap : Heading) (count : ℕ) (before : List (List ℕ)) (h : List Word) (cs : List (List Word)) (line : List ℕ) → Behind heap count before h cs → said (line ∷ []) ≡ words line ∷ [] → Behind heap (count + 1) (before ++ line ∷ []) h (cs ++ words line ∷ [])
-behind_one heap count before h cs line b e = record {
+after_one : (heap : Heading) (count : ℕ) (before : List (List ℕ)) (h : List Word) (cs : List (List Word)) (line : List ℕ) → StandsAfter heap count before h cs → said (line ∷ []) ≡ words line ∷ [] → StandsAfter heap (count + 1) (before ++ line ∷ []) h (cs ++ words line ∷ [])
+after_one heap count before h cs line b e = record {
   said_is = said_push before line ∙ ap (λ (x : List (List Word)). said before ++ x) e ∙ ap (λ (x : List (List Word)). x ++ words line ∷ []) b.said_is;
   heading_is = b.heading_is;
   count_is = omega (arith, b.count_is, length-append cs (words line ∷ []));
@@ -115,11 +115,11 @@ with_command passes h cs all w c (Ok found) e m = record {
 
 -- From here on: what is read of the lines, after those before them.
 abbrev First : Heading → List Word → List (List ℕ) → Type 0
-First heap h ls = (n count : ℕ) (before : List (List ℕ)) (cs : List (List Word)) → Behind heap count before h cs → NoFaultBefore (before ++ ls) (length before) → n ≡ length before + 1
+First heap h ls = (n count : ℕ) (before : List (List ℕ)) (cs : List (List Word)) → StandsAfter heap count before h cs → NoFaultBefore (before ++ ls) (length before) → n ≡ length before + 1
     → MatchResult (commands_from heap.0.passes n count ls) (Commands heap.0.passes h cs (before ++ ls)) (IsFirstFault (before ++ ls))
 
 step : (heap : Heading) (h : List Word) (line : List ℕ) (after : List (List ℕ)) (go : First heap h after)
-    (n count : ℕ) (before : List (List ℕ)) (cs : List (List Word)) → Behind heap count before h cs → NoFaultBefore (before ++ line ∷ after) (length before) → n ≡ length before + 1
+    (n count : ℕ) (before : List (List ℕ)) (cs : List (List Word)) → StandsAfter heap count before h cs → NoFaultBefore (before ++ line ∷ after) (length before) → n ≡ length before + 1
     → (r : Result (Option Line) FaultKind) → command_line heap.0.passes count line ≡ r
     → MatchResult (commands_from heap.0.passes n count (line ∷ after)) (Commands heap.0.passes h cs (before ++ line ∷ after)) (IsFirstFault (before ++ line ∷ after))
 unfolding each_from
@@ -129,14 +129,14 @@ step heap h line after go n count before cs b nf at (Err kind) e =
 step heap h line after go n count before cs b nf at (Ok None) e =
     let none = fault_command heap count before h cs line (Ok None) b e in
     let nf2 = no_fault_push before after line nf none in
-    let b2 = behind_pass heap count before h cs line b (command_line_none heap.0.passes count line e) in
+    let b2 = after_pass heap count before h cs line b (command_line_none heap.0.passes count line e) in
     let rest = go (n + 1) count (before ++ line ∷ []) cs b2 nf2 (omega (arith, at, length-append before (line ∷ []))) in
     rw e (subst (λ (all : List (List ℕ)). MatchResult (commands_from heap.0.passes (n + 1) count after) (Commands heap.0.passes h cs all) (IsFirstFault all)) (append_assoc before (line ∷ []) after) rest)
 step heap h line after go n count before cs b nf at (Ok (Some c)) e =
     let none = fault_command heap count before h cs line (Ok (Some c)) b e in
     let nf2 = no_fault_push before after line nf none in
     let p = command_line_some heap.0.passes count line c e in
-    let b2 = behind_one heap count before h cs line b p.0 in
+    let b2 = after_one heap count before h cs line b p.0 in
     let rest = go (n + 1) (count + 1) (before ++ line ∷ []) (cs ++ words line ∷ []) b2 nf2 (omega (arith, at, length-append before (line ∷ []))) in
     let moved = subst (λ (all : List (List ℕ)). MatchResult (commands_from heap.0.passes (n + 1) (count + 1) after) (Commands heap.0.passes h (cs ++ words line ∷ []) all) (IsFirstFault all)) (append_assoc before (line ∷ []) after) rest in
     rw e (with_command heap.0.passes h cs (before ++ line ∷ after) (words line) c (commands_from heap.0.passes (n + 1) (count + 1) after) p.1 moved)
@@ -178,7 +178,7 @@ heap_line_some line h e =
     let p = heap_said_some (is_printable line) (is_passed_over (words line)) (heading (words line)) h e in
     (spoken line p.0, p.1)
 
-fault_heap : (before : List (List ℕ)) (line : List ℕ) (r : Result (Option Heading) FaultKind) → said before ≡ [] → heap_line line ≡ r → fault_behind (said before) line ≡ fault_of r
+fault_heap : (before : List (List ℕ)) (line : List ℕ) (r : Result (Option Heading) FaultKind) → said before ≡ [] → heap_line line ≡ r → fault_after (said before) line ≡ fault_of r
 fault_heap before line r s e = rw (s, e) refl
 
 -- what `script_from` gives, of all lines
@@ -217,7 +217,7 @@ heap_step last line after go n before s nf at (Ok (Some h)) e =
     let nf2 = no_fault_push before after line nf (fault_heap before line (Ok (Some h)) s e) in
     let p = heap_line_some line h e in
     let s2 : said (before ++ line ∷ []) ≡ words line ∷ [] = said_push before line ∙ ap (λ (x : List (List Word)). said before ++ x) p.0 ∙ ap (λ (x : List (List Word)). x ++ words line ∷ []) s in
-    let b : Behind h 0 (before ++ line ∷ []) (words line) [] = record { said_is = s2; heading_is = p.1; count_is = refl } in
+    let b : StandsAfter h 0 (before ++ line ∷ []) (words line) [] = record { said_is = s2; heading_is = p.1; count_is = refl } in
     let rest = commands_first h (words line) after (n + 1) 0 (before ++ line ∷ []) [] b nf2 (omega (arith, at, length-append before (line ∷ []))) in
     let moved = subst (λ (all : List (List ℕ)). MatchResult (commands_from h.0.passes (n + 1) 0 after) (Commands h.0.passes (words line) [] all) (IsFirstFault all)) (append_assoc before (line ∷ []) after) rest in
     rw e (with_heading last h (words line) (before ++ line ∷ after) (commands_from h.0.passes (n + 1) 0 after) p.1 moved)

@@ -17,13 +17,13 @@ fault_of (Ok x) = None
 fault_of (Err kind) = Some kind
 
 -- the fault of a line that stands after lines which said this
-abbrev pub fault_behind : List (List Word) → List ℕ → Option FaultKind
-fault_behind [] line = fault_of (heap_line line)
-fault_behind (h ∷ commands) line = fault_of (heading h >>= λ heap. command_line heap.0.passes (length commands) line)
+abbrev pub fault_after : List (List Word) → List ℕ → Option FaultKind
+fault_after [] line = fault_of (heap_line line)
+fault_after (h ∷ commands) line = fault_of (heading h >>= λ heap. command_line heap.0.passes (length commands) line)
 
 -- the fault of the line at index i
 abbrev pub fault_at : List (List ℕ) → ℕ → Option FaultKind
-fault_at ls i = fault_behind (said (take i ls)) (slice_index_or ls i [])
+fault_at ls i = fault_after (said (take i ls)) (slice_index_or ls i [])
 
 abbrev pub NoFaultBefore : List (List ℕ) → ℕ → Type 0
 NoFaultBefore ls i = (j : ℕ) → j < i → fault_at ls j ≡ None

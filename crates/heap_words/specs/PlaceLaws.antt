@@ -5,7 +5,7 @@ use Rattle.heap_words.specs.Layouts.{Sizes, IsLayout, regions_of, words_of}
 use Rattle.heap_words.specs.Places.{Place, IsPlace, place_at, HasPlacesApart}
 use Rattle.heap_words.specs.Places.Place.{Phase, Mark, Greys, Ack, Root, RegionWord, Word, WideWord}
 
--- at most so many regions
+-- at most this many regions
 pub regions_of-bound : (l : Sizes) → IsLayout l → regions_of l ≤ MOST_REGIONS
 regions_of-bound l h = grind arith
 

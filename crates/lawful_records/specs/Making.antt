@@ -2,7 +2,7 @@
 use Rattle.std.specs.Prelude.{◌≡◌, ◌≢◌, ℕ, zero, suc, ◌+◌, ◌<◌, ◌≤◌, Bool, true, false, List, [], ◌∷◌, ◌++◌, Option, Some, None, IsSome}
 use Rattle.std.specs.Option.{ForSome}
 use Rattle.heap_words.specs.Layouts.{Sizes, region_at, first_word}
-use Rattle.heap_words.specs.Packing.{fits_behind, packing}
+use Rattle.heap_words.specs.Packing.{fits_after, packing}
 use Rattle.heap_words.specs.declared.limits.TheConstants.{REGION_WORDS}
 use Rattle.heap_history.specs.declared.call.Call.{Call}
 use Rattle.heap_history.specs.declared.call.Call.TheVariants as calls
@@ -98,7 +98,7 @@ pub record IsClaiming (l : Sizes) (pass : ℕ) (room : Room) (made : ℕ) (lens 
   pub few : made < 262144
   pub plan_is : plan ≡ plan_of l pass made len room.region
   pub round_is : IsRound l pass round
-  pub full : packing lens ≤ l.quota → fits_behind (used_after_all REGION_WORDS lens) len ≡ false
+  pub full : packing lens ≤ l.quota → fits_after (used_after_all REGION_WORDS lens) len ≡ false
   pub next : packing lens < l.quota → (let r = round_is in r.region) ≡ first_own l pass + packing lens
 
 -- the object is placed after the others of a region of the pass's, which is the one that packing has it in

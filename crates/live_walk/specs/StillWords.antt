@@ -27,7 +27,7 @@ live_at l words region offset =
     then row_at (walk_of l) region offset (word_in l words region offset) ∷ []
     else []
 
--- the live objects among those of a region that stand one after another from there on, which are at most so many
+-- the live objects among those of a region that stand one after another from there on, which are at most this many
 unfoldable pub live_from : Sizes → List ℕ → ℕ → ℕ → ℕ → List ObjectRow
 live_from l words region zero offset = []
 live_from l words region (suc n) offset =

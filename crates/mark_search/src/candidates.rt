@@ -16,7 +16,7 @@ pub struct Candidates {
     drawn: u32,
 }
 
-// The candidate of this salt that is drawn after so many others.
+// The candidate of this salt that is drawn after this many others.
 #[tactic(auto, unfolding(crate::specs::Draws::candidate_at))]
 fn candidate_at(salt: u64, drawn: u32) -> u64
     ensures value { result ≡ draws.candidate_at salt drawn }

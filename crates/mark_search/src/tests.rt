@@ -16,7 +16,7 @@ fn put(rt: &impl Abort, words: &mut PlainWords, at: u32, put: u64) {
     words.apply(Step::Store { at, put });
 }
 
-// Takes so many steps of the search, or fewer where it ends before that: how many it took.
+// Takes this many steps of the search, or fewer where it ends before that: how many it took.
 fn play(rt: &impl Abort, words: &mut PlainWords, seek: &mut SeekMarkMachine, most: u32) -> u32 {
     for steps in 0..most {
         let Step::Load { at } = seek.ask() else {

@@ -72,6 +72,6 @@ PassesBelow m = (words : List ℕ) → (x : ℕ) → cursor_of m ≤ x → x < c
 
 -- ---- its end
 
--- after so many steps, whatever words they found
+-- after this many steps, whatever words they found
 abbrev pub EndsWithin : ℕ → FixWalkMachine → Type 0
 EndsWithin most m = (words : List ℕ) → most ≤ length words → asks_of (after fed_of m words) ≡ Ended

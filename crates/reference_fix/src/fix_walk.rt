@@ -184,7 +184,7 @@ impl FixWalkMachine {
         // field whose fix has ended.
         ensures passes { PassesBelow result }
 
-        // Whatever words it finds, it has ended after so many steps.
+        // Whatever words it finds, it has ended after this many steps.
         ensures bound { EndsWithin (288 * regions_of layout.now) result }
     {
         let regions = layout.regions() as u16;

@@ -65,11 +65,11 @@ next_ahead r at here there other more = record {
   ahead = still_ahead r.first_at r.last_at r.at r.ahead _ at there.first there.last here.first here.last other more (next-cases r.first_at r.last_at r.at (nat_lt r.at r.last_at) (omega arith) refl here.last) there.ahead;
 }
 
--- plain numbers: with nothing behind the place, only the place itself is ahead
+-- plain numbers: with nothing after the place, only the place itself is ahead
 here_alone : (first last at ahead a : ℕ) → first ≤ a → at ≤ last → ahead ≡ 0 → ((at ≤ a) × (a ≤ at + ahead)) ⊎ (a + (last + 1 - first) ≤ at + ahead) → at ≡ a
 here_alone first last at ahead a fa li none is = grind arith
 
--- a region in use, behind which the round goes on or ends
+-- a region in use, after which the round goes on or ends
 passed_found : (on : Round → ClaimMachine) (r : Round) (rest : List ℕ) (at k : ℕ) (none : Bool) → (r.ahead == 0) ≡ none → IsOnRound r → IsAhead r at → (IsAhead (next_round r) at → after (on (next_round r)) rest ≡ claim.Ended (NoneFree k) → FoundInUse (on (next_round r)) rest at) → after (if none then claim.Ended (NoneFree r.regions) else on (next_round r)) rest ≡ claim.Ended (NoneFree k) → (r.at ≡ at) ⊎ FoundInUse (if none then claim.Ended (NoneFree r.regions) else on (next_round r)) rest at
 passed_found on r rest at k true e here there go is =
     let nothing : r.ahead ≡ 0 = grind (arith, nat_tests) in

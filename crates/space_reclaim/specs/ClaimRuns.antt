@@ -32,7 +32,7 @@ abbrev pub Exchanged : ClaimMachine → List ℕ → ℕ → ℕ → Type 0
 Exchanged m [] at taken = ⊥
 Exchanged m (word ∷ rest) at taken = ((asks_of m ≡ Exchange at 0 taken) × (word ≡ 0)) ⊎ Exchanged (fed_of m word) rest at taken
 
--- Whatever it finds: a region that it claims is one of the pass's own, and became the pass's; and where none is free, each of the own regions, so many as the quota, was found in use.
+-- Whatever it finds: a region that it claims is one of the pass's own, and became the pass's; and where none is free, each of the own regions, as many as the quota, was found in use.
 pub record EndsWithCause (l : Sizes) (pass : ℕ) (m : ClaimMachine) : Type 0 where
   pub claimed : (found : List ℕ) (region : ℕ) → after m found ≡ claim.Ended (Claimed region) → IsOwn l pass region × Exchanged m found (region_at l region) (word_of_region (Taken pass))
   pub none_free : (found : List ℕ) (regions : ℕ) → after m found ≡ claim.Ended (NoneFree regions) → (regions ≡ l.quota) × ((region : ℕ) → IsOwn l pass region → FoundInUse m found (region_at l region))

@@ -30,7 +30,7 @@ round_of l pass last = record {
 abbrev pub region_of : Round → ℕ
 region_of r = r.at - r.words_at
 
--- the round at the next region; behind the last comes the first
+-- the round at the next region; after the last comes the first
 abbrev pub next_round : Round → Round
 next_round r = record r { at = (if nat_lt r.at r.last_at then r.at + 1 else r.first_at); ahead = r.ahead - 1 }
 

@@ -2,7 +2,7 @@
 use Rattle.std.specs.Prelude.{◌≡◌, ℕ, ◌+◌, ◌*◌, ◌/◌, ◌%◌, ◌<◌, ◌≤◌, Bool, IsTrue, ◌&&◌, ◌||◌, not, ◌==◌, nat_le, if◌then◌else◌, List, [], ◌∷◌, ◌++◌, length, take, slice_index}
 use Rattle.std.specs.List.{All, AllPairs, filter, flat_map, list_any, sum_by}
 use Rattle.heap_words.specs.Layouts.{Sizes, IsLayout, IsRegion, regions_of, first_word, wide_at}
-use Rattle.heap_words.specs.Packing.{fits_behind}
+use Rattle.heap_words.specs.Packing.{fits_after}
 use Rattle.object_headers.specs.declared.change.Kind.{Kind}
 use Rattle.object_headers.specs.Changes.{is_stopless}
 use Rattle.space_reclaim.specs.declared.plan.RegionLive.{RegionLive}
@@ -54,9 +54,9 @@ pub record IsFound (l : Sizes) (rows : List RegionLive) (objects : List ObjectRo
 
 -- ---- where copies lie
 
--- The free regions of the pool are one strip of words, 64 of each. After so many used words of it a copy of n fields begins at the next one, or with the next region where it does not fit the rest of this one.
+-- The free regions of the pool are one strip of words, 64 of each. After this many used words of it a copy of n fields begins at the next one, or with the next region where it does not fit the rest of this one.
 abbrev pub begins_after : ℕ → ℕ → ℕ
-begins_after used n = if fits_behind (used % 64) n then used else 64 * (used / 64 + 1)
+begins_after used n = if fits_after (used % 64) n then used else 64 * (used / 64 + 1)
 
 -- the words of the strip that are used after the copies of objects laid one after another
 abbrev pub strip_after : ℕ → List ObjectRow → ℕ
@@ -67,7 +67,7 @@ strip_after used (o ∷ rest) = strip_after (begins_after used o.len + o.len + 1
 abbrev pub strip_at : Space → ℕ → ℕ
 strip_at s n = first_word s.layout (slice_index s.pool_free (n / 64)) + n % 64
 
--- whether there is room for so many words of the strip, and for Stopless for so many words of wide objects
+-- whether there is room for this many words of the strip, and for Stopless for this many words of wide objects
 abbrev pub has_room : Space → ℕ → ℕ → Bool
 has_room s used words = nat_le used (64 * length s.pool_free) && (not (is_stopless s.kind) || nat_le words s.wide_free)
 
@@ -116,7 +116,7 @@ pub record IsRoomy (l : Sizes) (chosen_room target_room job_room : ℕ) : Type 0
   pub targets : l.pool ≤ target_room
   pub jobs : 64 * l.pool ≤ job_room
 
--- how many regions so many used words of the strip are, the last one begun
+-- how many regions this many used words of the strip are, the last one begun
 abbrev pub regions_begun : ℕ → ℕ
 regions_begun used = (used + 63) / 64
 

@@ -38,7 +38,7 @@ end_of (release.Clear r ahead) = None
 end_of (release.Free r) = None
 end_of release.Ended = Some tt
 
--- the step that it asks for after so many
+-- the step that it asks for after this many
 unfoldable pub asked_after : ReleaseMachine → ℕ → Step
 asked_after m zero = asks_of m
 asked_after m (suc n) = asked_after (fed_of m 0) n

@@ -18,7 +18,7 @@ pub struct Round {
     pub last_at: u32,
     /// The address of the word that is looked at.
     pub at: u32,
-    /// How many regions of the round come behind the one that is looked at.
+    /// How many regions of the round come after the one that is looked at.
     pub ahead: u16,
     /// How many regions the pass has.
     pub regions: u32,
@@ -70,7 +70,7 @@ impl Round {
         u32::from(self.ahead) + 1
     }
 
-    /// The round at the next region; behind the last comes the first.
+    /// The round at the next region; after the last comes the first.
     fn next(&self) -> Round
         requires { 0 < self.now.ahead }
         ensures { result ≡ next_round self.now }
@@ -92,7 +92,7 @@ impl Round {
 pub enum ClaimEnd {
     /// This region was Free, and is now the pass's.
     Claimed(u32),
-    /// Each of the pass's own regions, of which there are so many, was found in use.
+    /// Each of the pass's own regions, of which there are this many, was found in use.
     NoneFree { regions: u32 },
 }
 

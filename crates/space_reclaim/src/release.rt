@@ -19,7 +19,7 @@ pub struct Release {
 /// any address of that region.
 #[derive(Clone, Copy, Debug, PartialEq, Eq)]
 pub enum ReleaseMachine {
-    /// Stores 0 in a word of the region, after which so many more are to come.
+    /// Stores 0 in a word of the region, after which this many more are to come.
     Clear { release: Release, ahead: u16 },
     /// Stores Free in the region word.
     Free(Release),
@@ -35,7 +35,7 @@ const FREE: u64 = 0;
 impl Release {
     ghost use Rattle.call_steps.specs.declared.step.Step.TheVariants.{Store};
 
-    /// The store of 0 in the word after which so many more are to come.
+    /// The store of 0 in the word after which this many more are to come.
     fn clear(&self, ahead: u16) -> Step
         ensures { result ≡ Store (self.now.last_at - ahead) 0 }
     {
@@ -46,7 +46,7 @@ impl Release {
     }
 }
 
-/// The steps that are left with a word after which so many more are to come.
+/// The steps that are left with a word after which this many more are to come.
 fn left_with(ahead: u16) -> u32
     ensures { result ≡ ahead + 2 }
 {

@@ -23,7 +23,7 @@ pub struct Used {
     pub words: u32,
 }
 
-/// Where a copy of so many fields begins after the used words of the strip: at the next one, or with the
+/// Where a copy of this many fields begins after the used words of the strip: at the next one, or with the
 /// next region where it does not fit the rest of this one.
 fn begins_after(used: u32, len: u32) -> u32
     requires used { used < 2 ^ 31 }
@@ -116,7 +116,7 @@ impl<'a> Space<'a> {
         self.layout.first_word(region) + word % REGION_WORDS
     }
 
-    /// The address of a wide object after so many words of the wide area, or 0.
+    /// The address of a wide object after this many words of the wide area, or 0.
     fn wide(&self, words: u32) -> u32
         requires { words < 2 ^ 16 }
         ensures { result ≡ (if is_stopless self.now.kind then wide_at self.now.layout + words else 0) }

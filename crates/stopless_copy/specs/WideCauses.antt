@@ -105,7 +105,7 @@ module _ (Serves : ℕ → Type 0) where
   abbrev pub IsServed : ℕ → Type 0
   IsServed wanted = (status_in wanted ≡ InWide) × Serves (word_in wanted)
 
-  -- after these steps this wide word is wanted, with so many tries left: after the loads, and as many lost exchanges, each of which found what the next one wants
+  -- after these steps this wide word is wanted, with this many tries left: after the loads, and as many lost exchanges, each of which found what the next one wants
   abbrev pub HasTried : Spot → Spot → ℕ → ℕ → TriesLeft → List Taken → Type 0
   HasTried spot wide word wanted Two steps = HasLooked spot wide steps wanted
   HasTried spot wide word wanted One steps = IsServed wanted × ((looks : List Taken) × (first : ℕ) × HasLooked spot wide looks first × (steps ≡ looks ++ wide_try wide word first wanted ∷ []))

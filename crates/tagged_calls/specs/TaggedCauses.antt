@@ -46,7 +46,7 @@ IsHeaderWay Says spot steps =
 abbrev pub IsApproach : Spot → List Taken → Spot → Type 0
 IsApproach spot steps here = IsHeaderWay (λ word. Leads spot word here) spot steps
 
--- Behind the steps that led to its place in such a way, the call did what ends a call of an object at rest so, whose header this word is
+-- After the steps that led to its place in such a way, the call did what ends a call of an object at rest so, whose header this word is
 pub record EndsPlaced {E : Type 0} (Led : Spot → List Taken → Spot → Type 0) (For : Spot → LastStep → E → Type 0) (spot : Spot) (last : LastStep) (end : E) : Type 0 where
   pub here : Spot
   pub approach : List Taken
@@ -90,14 +90,14 @@ lacks spot here word led e = record {
   past = subst (λ (f : ℕ). len_at word ≤ f) (led_field spot word here led) (ltb-false here.field (len_at word) e);
 }
 
--- behind a load of the header no cause is one of want of a field
+-- after a load of the header no cause is one of want of a field
 pub lacks_no_more : (here : Spot) (last : LastStep) (first : Taken) (rest : List Taken) (len : ℕ) → LacksField here (record last { earlier = first ∷ rest }) len → ⊥
 lacks_no_more here last first rest len lacking = let none : first ∷ rest ≡ [] = lacking.first in cc
 
 -- ---- that it is so
 
 module _ {K : Type 0} (Led : Spot → List Taken → Spot → Type 0) (Is : Spot → List Taken → K → Type 0) where
-  -- behind these steps it is at its place
+  -- after these steps it is at its place
   pub record IsPlacedFor (spot : Spot) (earlier : List Taken) (m : K) : Type 0 where
     pub here : Spot
     pub approach : List Taken

@@ -24,7 +24,7 @@ pub enum Location {
     Original,
     /// In the original, which is to be copied.
     Tagged(Keep),
-    /// Behind its wide word.
+    /// After its wide word.
     Wide(Spot),
     /// In the copy.
     Copy(Spot),

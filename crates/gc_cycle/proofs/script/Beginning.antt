@@ -7,7 +7,7 @@ use Rattle.std.proofs.lemmas.Bool.{ltb-true, ltb-false, le-leb, ne_eqb}
 use Rattle.std.proofs.lemmas.List.{get_or_past}
 use Rattle.std.proofs.lemmas.Option.{same_Some}
 use Rattle.heap_words.specs.Layouts.{Sizes}
-use Rattle.heap_words.specs.Packing.{fits_behind}
+use Rattle.heap_words.specs.Packing.{fits_after}
 use Rattle.heap_words.specs.FieldWords.{IsFieldWord, word_of}
 use Rattle.heap_words.specs.declared.operand.Operand.{Operand}
 use Rattle.heap_words.specs.declared.operand.Operand.TheVariants as operands
@@ -136,7 +136,7 @@ module _ (l : Sizes) (view : PassView) (len : ℕ) where
   making_is : (room : Room) (made : ℕ) → made < 262144 → IsMakingOf l view.pass room made len (new_of l view room made len) × (end_of (new_of l view room made len) ≡ None)
   making_is room made few =
       let more : nat_eq made 262144 ≡ false = ne_eqb made 262144 (omega arith) in
-      rw more (fit_is room made room.region (fits_behind room.used len))
+      rw more (fit_is room made room.region (fits_after room.used len))
 
 -- ---- accesses
 

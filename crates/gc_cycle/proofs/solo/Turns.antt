@@ -10,7 +10,7 @@ use Rattle.heap_words.specs.declared.field_word.FieldWord.TheVariants.{Num, Link
 use Rattle.heap_words.specs.declared.operand.Operand.{Operand}
 use Rattle.heap_words.specs.FieldWords.{word_of}
 use Rattle.heap_words.specs.Layouts.{Sizes}
-use Rattle.heap_words.specs.Packing.{fits_behind}
+use Rattle.heap_words.specs.Packing.{fits_after}
 use Rattle.heap_history.specs.declared.call.Ended.{Ended}
 use Rattle.heap_script.specs.Commands.{commands_at}
 use Rattle.heap_script.specs.TellingSteps.{answers_at}
@@ -125,8 +125,8 @@ module _ {R W E M : Type 0} (kit : Kit R W E M) (by : Stepping R W E M) where
     request_begun : (request : Request) → most_left l.quota request < before → IsBegun alone memory l.quota before (started kit l r request)
     request_begun requests.Poll less = (less, tt)
     request_begun (requests.New len) less =
-        let m : NewMachine = makes.by_fit l r.view.pass r.room r.made len r.room.region (fits_behind r.room.used len) in
-        let few : makes.left_of (makes.new_of l r.view r.room r.made len) ≤ l.quota + 4 = new_left (l.quota + 4) (r.made == BIRTHS_OF_PASS) m (fits_left l r.view.pass r.made len r.room r.room.region (fits_behind r.room.used len)) in
+        let m : NewMachine = makes.by_fit l r.view.pass r.room r.made len r.room.region (fits_after r.room.used len) in
+        let few : makes.left_of (makes.new_of l r.view r.room r.made len) ≤ l.quota + 4 = new_left (l.quota + 4) (r.made == BIRTHS_OF_PASS) m (fits_left l r.view.pass r.made len r.room r.room.region (fits_after r.room.used len)) in
         (omega (arith, few, less), tt)
     request_begun (requests.Read obj field) less = read_begun (held_in r.registers obj) field less
     request_begun (requests.Write obj field what) less = write_begun (held_in r.registers obj) field what less

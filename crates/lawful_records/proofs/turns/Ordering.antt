@@ -3,7 +3,7 @@ use Rattle.std.proofs.Common.{◌≡◌, ℕ, zero, suc, ◌+◌, ◌<◌, ◌�
 use Rattle.std.specs.Prelude.{nat_le, nat_lt, IsSome}
 use Rattle.std.proofs.lemmas.Bool.Decides.{nat_tests}
 use Rattle.heap_words.specs.Layouts.{Sizes}
-use Rattle.heap_words.specs.Packing.{fits_behind, used_after, begun_by, begun_by_all, packing}
+use Rattle.heap_words.specs.Packing.{fits_after, used_after, begun_by, begun_by_all, packing}
 use Rattle.heap_words.specs.declared.limits.TheConstants.{REGION_WORDS}
 use Rattle.space_reclaim.specs.NextFit.{used_after_all, packing_grows}
 use Rattle.space_reclaim.specs.declared.region_word.RegionWord.TheVariants.{Free, Taken}
@@ -49,20 +49,20 @@ pub packing_least : (lens : List ℕ) (n : ℕ) → packing lens ≤ packing (le
 packing_least lens n = let more = begun_by_more REGION_WORDS lens n in omega arith
 
 -- one that fits needs no more, and lies after the others
-pub packing_fits : (lens : List ℕ) (n : ℕ) → fits_behind (used_after_all REGION_WORDS lens) n ≡ true → packing (lens ++ n ∷ []) ≡ packing lens
+pub packing_fits : (lens : List ℕ) (n : ℕ) → fits_after (used_after_all REGION_WORDS lens) n ≡ true → packing (lens ++ n ∷ []) ≡ packing lens
 packing_fits lens n fits =
     let more = begun_by_more REGION_WORDS lens n in
     let none : begun_by (used_after_all REGION_WORDS lens) n ≡ 0 = ap (λ (x : Bool). if x then 0 else 1) fits in
     omega arith
 
-used_fits : (lens : List ℕ) (n : ℕ) → fits_behind (used_after_all REGION_WORDS lens) n ≡ true → used_after_all REGION_WORDS (lens ++ n ∷ []) ≡ used_after_all REGION_WORDS lens + n + 1
+used_fits : (lens : List ℕ) (n : ℕ) → fits_after (used_after_all REGION_WORDS lens) n ≡ true → used_after_all REGION_WORDS (lens ++ n ∷ []) ≡ used_after_all REGION_WORDS lens + n + 1
 used_fits lens n fits = used_after_more REGION_WORDS lens n ∙ ap (λ (x : Bool). if x then used_after_all REGION_WORDS lens + n + 1 else n + 1) fits
 
 -- one that does not fit lies first in a region
-used_first : (lens : List ℕ) (n : ℕ) → fits_behind (used_after_all REGION_WORDS lens) n ≡ false → used_after_all REGION_WORDS (lens ++ n ∷ []) ≡ n + 1
+used_first : (lens : List ℕ) (n : ℕ) → fits_after (used_after_all REGION_WORDS lens) n ≡ false → used_after_all REGION_WORDS (lens ++ n ∷ []) ≡ n + 1
 used_first lens n full = used_after_more REGION_WORDS lens n ∙ ap (λ (x : Bool). if x then used_after_all REGION_WORDS lens + n + 1 else n + 1) full
 
-never_fits : (n : ℕ) → fits_behind REGION_WORDS n ≡ false
+never_fits : (n : ℕ) → fits_after REGION_WORDS n ≡ false
 never_fits n = grind (arith, nat_tests)
 
 -- objects that need no region are none
@@ -99,30 +99,30 @@ module _ (l : Sizes) (s : Space) (pass : ℕ) (room : Room) (lens : List ℕ) (o
   order_stays t free few = let was = order few in record { region = was.region; last = was.last; used = was.used; free = λ region own after. free region own (was.free region own after) }
 
   -- what does not fit the room, if there is any, does not fit after the objects
-  pub full_of : (len : ℕ) → (IsSome room.region → fits_behind room.used len ≡ false) → packing lens ≤ l.quota → fits_behind (used_after_all REGION_WORDS lens) len ≡ false
+  pub full_of : (len : ℕ) → (IsSome room.region → fits_after room.used len ≡ false) → packing lens ≤ l.quota → fits_after (used_after_all REGION_WORDS lens) len ≡ false
   full_of len full few = by_region room.region refl
     where
-      by_region : (region : Option ℕ) → room.region ≡ region → fits_behind (used_after_all REGION_WORDS lens) len ≡ false
+      by_region : (region : Option ℕ) → room.region ≡ region → fits_after (used_after_all REGION_WORDS lens) len ≡ false
       by_region None e =
           let was = order few in
           let none : packing lens ≡ 0 = none_needed l pass (packing lens) (sym e ∙ was.region) in
-          ap (λ (used : ℕ). fits_behind used len) (packing_none lens none) ∙ never_fits len
+          ap (λ (used : ℕ). fits_after used len) (packing_none lens none) ∙ never_fits len
       by_region (Some region) e =
           let was = order few in
           let some : IsSome room.region = rw e refl in
-          ap (λ (used : ℕ). fits_behind used len) (sym (was.used some)) ∙ full some
+          ap (λ (used : ℕ). fits_after used len) (sym (was.used some)) ∙ full some
 
   -- the claim of a region begins at the next one
   pub begins_in_order : packing lens < l.quota → begins_at l pass room.last ≡ first_own l pass + packing lens
   begins_in_order few = let was = order (omega (arith, few)) in ap (begins_at l pass) was.last ∙ begins_next l pass (packing lens) few
 
   -- one more object in the room
-  pub order_fits : (len region : ℕ) → room.region ≡ Some region → fits_behind room.used len ≡ true → IsInOrder l s pass (record { region = Some region; used = room.used + len + 1; last = room.last }) (lens ++ len ∷ [])
+  pub order_fits : (len region : ℕ) → room.region ≡ Some region → fits_after room.used len ≡ true → IsInOrder l s pass (record { region = Some region; used = room.used + len + 1; last = room.last }) (lens ++ len ∷ [])
   order_fits len region e fits few =
       let was = order (omega (arith, few, packing_least lens len)) in
       let some : IsSome room.region = rw e refl in
       let used : room.used ≡ used_after_all REGION_WORDS lens = was.used some in
-      let behind : fits_behind (used_after_all REGION_WORDS lens) len ≡ true = ap (λ (x : ℕ). fits_behind x len) (sym used) ∙ fits in
+      let behind : fits_after (used_after_all REGION_WORDS lens) len ≡ true = ap (λ (x : ℕ). fits_after x len) (sym used) ∙ fits in
       let same : packing (lens ++ len ∷ []) ≡ packing lens = packing_fits lens len behind in
       record {
         region = sym e ∙ was.region ∙ ap (own_last l pass) (sym same);
@@ -132,7 +132,7 @@ module _ (l : Sizes) (s : Space) (pass : ℕ) (room : Room) (lens : List ℕ) (o
       }
 
   -- one more object, in a region that was claimed for it
-  module _ (len k used : ℕ) (full : packing lens ≤ l.quota → fits_behind (used_after_all REGION_WORDS lens) len ≡ false) (next : packing lens < l.quota → k ≡ first_own l pass + packing lens) (first : used ≡ len + 1) where
+  module _ (len k used : ℕ) (full : packing lens ≤ l.quota → fits_after (used_after_all REGION_WORDS lens) len ≡ false) (next : packing lens < l.quota → k ≡ first_own l pass + packing lens) (first : used ≡ len + 1) where
     pub order_claims : IsInOrder l (put_region s k (Taken pass)) pass (record { region = Some k; used = used; last = Some k }) (lens ++ len ∷ [])
     order_claims few =
         let enough : packing lens ≤ l.quota = omega (arith, few, packing_least lens len) in
@@ -148,7 +148,7 @@ module _ (l : Sizes) (s : Space) (pass : ℕ) (room : Room) (lens : List ℕ) (o
         }
 
   -- where the claim of a region found none free, they and the object need more than there are
-  pub needs_more : (len : ℕ) → (packing lens ≤ l.quota → fits_behind (used_after_all REGION_WORDS lens) len ≡ false) → (packing lens < l.quota → ⊥) → l.quota < packing (lens ++ len ∷ [])
+  pub needs_more : (len : ℕ) → (packing lens ≤ l.quota → fits_after (used_after_all REGION_WORDS lens) len ≡ false) → (packing lens < l.quota → ⊥) → l.quota < packing (lens ++ len ∷ [])
   needs_more len full none = by_count (nat_lt l.quota (packing lens)) refl
     where
       by_rest : (less : Bool) → nat_lt (packing lens) l.quota ≡ less → packing lens ≤ l.quota → packing (lens ++ len ∷ []) ≡ packing lens + 1 → l.quota < packing (lens ++ len ∷ [])

@@ -63,7 +63,7 @@ module _ (s : Space) (stopless : is_stopless s.kind ≡ true) where
       let next : wide_at s.layout + (words + o.len + 1) ≡ wide_at s.layout + words + o.len + 1 = omega arith in
       (wide_is used words o, subst (λ at. FollowFrom at (jobs_after s (begins_after used o.len + o.len + 1) (words + o.len + 1) rest)) next (wide_follow (begins_after used o.len + o.len + 1) (words + o.len + 1) rest))
 
-  -- they lie in so many words of the wide area
+  -- they lie in this many words of the wide area
   pub wide_within : (most used words : ℕ) (objects : List ObjectRow) → words + words_of objects ≤ most → All (λ j. (wide_at s.layout ≤ j.wide) × (j.wide + j.len < wide_at s.layout + most)) (jobs_after s used words objects)
   wide_within most used words [] fits = All-nil (λ j. (wide_at s.layout ≤ j.wide) × (j.wide + j.len < wide_at s.layout + most))
   wide_within most used words (o ∷ rest) fits =

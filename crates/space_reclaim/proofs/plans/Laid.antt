@@ -47,7 +47,7 @@ laid-same l e f (j ∷ rest) same laid =
 begins_cases : (used n : ℕ) → n ≤ 30 → (begins_after used n ≡ used) ⊎ ((begins_after used n ≡ 64 * (used / 64 + 1)) × (0 < used % 64))
 begins_cases used n few = grind (arith, nat_tests)
 
--- where objects end in the free regions after so many used words of the strip: in those not begun at the first word, and in the one that is begun after the used ones
+-- where objects end in the free regions after this many used words of the strip: in those not begun at the first word, and in the one that is begun after the used ones
 pub record EndsAt (l : Sizes) (pool : List ℕ) (ends : ℕ → ℕ) (used : ℕ) : Type 0 where
   pub fresh : (k : ℕ) → k < length pool → used ≤ 64 * k → ends (get_or pool k 0) ≡ first_word l (get_or pool k 0)
   pub here : used / 64 < length pool → ends (get_or pool (used / 64) 0) ≡ first_word l (get_or pool (used / 64) 0) + used % 64

@@ -1,7 +1,7 @@
 use Rattle.std.proofs.Common.{◌≡◌, ◌≢◌, ◌+◌, slice_index, ap, ◌∙◌, sym, arith}
 use Rattle.object_headers.specs.declared.header.Header.{Header}
 use Rattle.object_headers.specs.Headers.{header_at}
-use Rattle.cycle_journal.specs.LastHeaps.{behind}
+use Rattle.cycle_journal.specs.LastHeaps.{next_after}
 use Rattle.cycle_journal.specs.Lines.{lines_of}
 use Rattle.cycle_journal.proofs.Walks.{over_at_end, over_at_zero, tells_on, told_all}
 use Rattle.cycle_journal.proofs.walk.push_region.Goals as goal
@@ -13,7 +13,7 @@ loop-at-preserved c =
     let at = c.loop-at.at in
     let header : c.header_at-header.result ≡ header_at (slice_index words at) = c.header_at-header.ensures.header ∙ ap header_at c.word_at-in-loop-at.ensures in
     let len = ap (λ (h : Header). h.len) header in
-    let next : at + (c.header_at-header.result.len + 1) ≡ behind words at = omega arith in
+    let next : at + (c.header_at-header.result.len + 1) ≡ next_after words at = omega arith in
     let some : slice_index words at ≢ 0 = λ zero. c.if-word_at-ne0.true (c.word_at.ensures ∙ zero) in
     record {
       most = omega arith;
