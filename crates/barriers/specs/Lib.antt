@@ -37,4 +37,3 @@ pub mod Stances
 pub mod States
 pub mod Values
 pub mod Writes
-pub mod RetirementLaws

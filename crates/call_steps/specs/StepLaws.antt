@@ -18,24 +18,6 @@ pub record Put (m n : ℕ → ℕ) (at put : ℕ) : Type 0 where
   pub here : n at ≡ put
   pub elsewhere : (a : ℕ) → a ≢ at → n a ≡ m a
 
--- a step on a word is a write of what it puts there
-pub applied-step : (step : Step) (words : List ℕ) → step ≢ Ended → applied step words ≡ slice_set words (place_of step) (put_by step (slice_index words (place_of step)))
-applied-step Ended words on = absurd (on refl)
-applied-step (Load at) words on = refl
-applied-step (Store at put) words on = refl
-applied-step (Exchange at want put) words on = refl
-applied-step (Add at by) words on = refl
-applied-step (Sub at by) words on = refl
-
--- a step on a word that is there has its address below the length
-pub place_is_inside : (step : Step) (len : ℕ) → step ≢ Ended → IsInside len step → place_of step < len
-place_is_inside Ended len on inside = absurd (on refl)
-place_is_inside (Load at) len on inside = inside
-place_is_inside (Store at put) len on inside = inside
-place_is_inside (Exchange at want put) len on inside = inside
-place_is_inside (Add at by) len on inside = inside
-place_is_inside (Sub at by) len on inside = inside
-
 -- a step finds the word at its address
 pub found_by-step : (step : Step) (words : List ℕ) → step ≢ Ended → found_by step words ≡ reading words (place_of step)
 found_by-step Ended words on = absurd (on refl)
@@ -86,12 +68,3 @@ put_by-fits (Store at put) word fits puts = puts
 put_by-fits (Exchange at want put) word fits puts = elim (word == want) as (λ same. either same put word < 2 ^ 64) [ true ↦ puts | false ↦ fits ]
 put_by-fits (Add at by) word fits puts = omega arith
 put_by-fits (Sub at by) word fits puts = omega arith
-
--- words stay below 2^64
-pub AreWords-applied : (step : Step) (words : List ℕ) → AreWords words → PutsWord step → AreWords (applied step words)
-AreWords-applied Ended words fit puts = fit
-AreWords-applied (Load at) words fit puts = AreWords-set words at _ (put_by-fits (Load at) _ (AreWords-reading words at fit) puts) fit
-AreWords-applied (Store at put) words fit puts = AreWords-set words at put puts fit
-AreWords-applied (Exchange at want put) words fit puts = AreWords-set words at _ (put_by-fits (Exchange at want put) _ (AreWords-reading words at fit) puts) fit
-AreWords-applied (Add at by) words fit puts = AreWords-set words at _ (put_by-fits (Add at by) _ (AreWords-reading words at fit) puts) fit
-AreWords-applied (Sub at by) words fit puts = AreWords-set words at _ (put_by-fits (Sub at by) _ (AreWords-reading words at fit) puts) fit

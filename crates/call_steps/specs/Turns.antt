@@ -1,5 +1,5 @@
 -- One turn of a record among the records of all parties, and some turns one after another.
-use Rattle.std.specs.Prelude.{◌≡◌, ◌≢◌, ℕ, List, [], ◌∷◌, slice_index}
+use Rattle.std.specs.Prelude.{◌≡◌, ◌≢◌, ℕ, List, ◌∷◌, slice_index}
 use Rattle.call_steps.specs.declared.step.Step.{Step}
 use Rattle.call_steps.specs.declared.step.Step.TheVariants.{Ended}
 use Rattle.call_steps.specs.Steps.{place_of, applied}
@@ -26,8 +26,3 @@ pub data Chain {R : Type 0} (link : R → R → Type 0) : R → R → Type 0 whe
 -- some turns, one after another
 abbrev pub Turns : {R : Type 0} → (List ℕ → List R → Type 0) → (R → Step) → (List R → R → ℕ → R) → R → R → Type 0
 Turns lawful asks turned = Chain (λ before after. (found : ℕ) × Turned lawful asks turned before found after)
-
--- the first record, and this one where there is none
-abbrev pub head_or : {R : Type 0} → R → List R → R
-head_or none [] = none
-head_or none (r ∷ rs) = r

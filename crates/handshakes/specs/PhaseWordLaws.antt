@@ -5,7 +5,7 @@ use Rattle.handshakes.specs.declared.phase_word.Phase.{Phase}
 use Rattle.handshakes.specs.declared.phase_word.Phase.TheVariants.{Free, Mark, Confirm, Copy, Fix, Retired}
 use Rattle.handshakes.specs.declared.phase_word.PhaseWord.{PhaseWord}
 use Rattle.handshakes.specs.Phases.{code_of, phase_of}
-use Rattle.handshakes.specs.PhaseWords.{IsPhaseWord, FitsPhase, word_of_phase, phase_word_of, phase_word_at, names_phase, retired_word, HoldsNoPhase, phase_bits, cycle_bits, round_bits, bits_above}
+use Rattle.handshakes.specs.PhaseWords.{IsPhaseWord, FitsPhase, word_of_phase, phase_word_of, phase_word_at, names_phase, HoldsNoPhase, phase_bits, cycle_bits, round_bits, bits_above}
 
 code_of-bound : (p : Phase) → code_of p < 6
 code_of-bound Free = omega arith
@@ -102,11 +102,6 @@ pub phase_word_at-word_of_phase : (p : PhaseWord) → IsPhaseWord p → phase_wo
 unfolding phase_word_at
 phase_word_at-word_of_phase p f = rw (phase_word_of-word_of_phase p f) refl
 
--- two phases with one word are one
-pub word_of_phase-injective : (p q : PhaseWord) → IsPhaseWord p → IsPhaseWord q → word_of_phase p ≡ word_of_phase q → p ≡ q
-word_of_phase-injective p q fp fq e =
-    sym (phase_word_at-word_of_phase p fp) ∙ (ap phase_word_at e ∙ phase_word_at-word_of_phase q fq)
-
 -- what the bits of a phase's word are
 pub record HoldsPhase (word : ℕ) : Type 0 where
   pub phase : phase_bits word < 6
@@ -187,13 +182,3 @@ word_of_phase-phase_word_of word = elim (known (names_phase word)) [
   | inl there ↦ rw (phase_word_of-true word there) (read-packs word (holds_phase word there))
   | inr none ↦ rw (phase_word_of-false word none) tt
 ]
-
--- Retired has its word
-pub word_of_phase-retired : word_of_phase (record { phase = Retired; cycle = 0; round = 0 }) ≡ retired_word
-unfolding word_of_phase
-word_of_phase-retired = refl
-
--- a word is Retired's exactly where it unpacks to Retired
-pub phase_word_of-retired : phase_word_of retired_word ≡ Some (record { phase = Retired; cycle = 0; round = 0 })
-unfolding phase_word_of names_phase phase_of
-phase_word_of-retired = refl

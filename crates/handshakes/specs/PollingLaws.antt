@@ -1,11 +1,9 @@
 -- What a poll knows and holds after each of its steps, and after those of others.
-use Rattle.std.proofs.Common.{◌≡◌, ◌≢◌, ℕ, ◌+◌, ◌<◌, ◌≤◌, ◌==◌, inl, inr, refl, sym, ap, ◌∙◌, subst, arith, Bool, true, false, List, [], ◌∷◌, length, get_or, set, drop, if◌then◌else◌, zero, suc, get_or-set_same, get_or-set_other, length-set}
+use Rattle.std.proofs.Common.{◌≡◌, ◌≢◌, ℕ, ◌+◌, ◌<◌, ◌≤◌, ◌==◌, inl, inr, refl, sym, ap, ◌∙◌, subst, arith, Bool, true, false, List, ◌∷◌, length, get_or, set, drop, if◌then◌else◌, zero, suc, get_or-set_same, get_or-set_other, length-set, []}
 use Rattle.std.proofs.lemmas.Bool.{eqb-true, eq-eqb, ne_eqb, cases_eq}
 use Rattle.std.proofs.lemmas.List.{get_or_past}
-use Rattle.call_steps.specs.declared.step.Step.TheVariants.{Load}
 use Rattle.heap_words.specs.declared.field_word.FieldWord.{FieldWord}
 use Rattle.heap_words.specs.declared.field_word.FieldWord.TheVariants.{Num, Link}
-use Rattle.heap_words.specs.Layouts.{Sizes, IsPass}
 use Rattle.object_headers.specs.Headers.{header_at}
 use Rattle.handshakes.specs.declared.phase_word.Phase.{Phase}
 use Rattle.handshakes.specs.declared.phase_word.Phase.TheVariants.{Free, Mark, Confirm, Copy, Fix, Retired}
@@ -14,29 +12,10 @@ use Rattle.handshakes.specs.declared.pass_view.PassView.{PassView}
 use Rattle.handshakes.specs.declared.poll.Poll.{Poll}
 use Rattle.handshakes.specs.declared.poll.PollMachine.{PollMachine}
 use Rattle.handshakes.specs.declared.poll.PollMachine.TheVariants as poll
-use Rattle.handshakes.specs.PhaseWords.{phase_word_at, retired_word}
+use Rattle.handshakes.specs.PhaseWords.{phase_word_at}
 use Rattle.handshakes.specs.Follows.{place_by}
-use Rattle.handshakes.specs.Polls.{poll_of, asks_of, fed_of, follow_from, begin_by, followed, rest_after, ended}
-use Rattle.handshakes.specs.Handshakes.{Announced, AllAnswer, Advances, IsInHand}
-use Rattle.handshakes.specs.HandshakeLaws.{announced_stays}
-use Rattle.handshakes.specs.Polling.{Polled, mark_by, said_to, held_in, AreFollowed, HaveAnswered, IsPollWith, IsPollOf, IsFollowedAt, IsPolling, IsRunning, PollFinds, poll_step}
-
--- the word that it works for is in hand
-pub poll_has_in_hand : (a : Announced) (x : Polled) (p : Poll) (word : ℕ) → x.announced ≡ a.word → x.view.acked ≢ retired_word → IsPollWith x p word → IsInHand a x.view.acked word
-poll_has_in_hand a x p word announced_is runs is =
-    record { runs = runs; announced_is = is.announced_is ∙ announced_is; acked_not = λ e. is.acked_not (e ∙ is.announced_is) }
-
--- it begins so
-pub poll_begins : (R : FieldWord → FieldWord → Type 0) (x : Polled) → IsPolling R x (poll.Phase (poll_of x.view x.registers))
-poll_begins R x = record { phase_at_is = refl; mark_at_is = refl; ack_at_is = refl; view_is = refl; registers_are = refl }
-
--- its step is on one of these words
-pub poll_asks : (R : FieldWord → FieldWord → Type 0) (x : Polled) (m : PollMachine) → IsPolling R x m → asks_of m ≡ poll_step x m
-poll_asks R x (poll.Phase p) is = ap Load is.phase_at_is
-poll_asks R x (poll.Mark p word) is = ap Load is.0.mark_at_is
-poll_asks R x (poll.Follow p word register birth at) is = refl
-poll_asks R x (poll.Acknowledge p word mark) is = rw (is.0.ack_at_is, is.0.announced_is) refl
-poll_asks R x (poll.Ended e) is = refl
+use Rattle.handshakes.specs.Polls.{fed_of, follow_from, begin_by, followed, rest_after, ended}
+use Rattle.handshakes.specs.Polling.{Polled, mark_by, said_to, held_in, AreFollowed, HaveAnswered, IsPollWith, IsPollOf, IsFollowedAt, IsPolling, IsRunning, PollFinds}
 
 -- ---- registers
 
@@ -201,9 +180,3 @@ poll_hears R x announced mark waits (poll.Mark p word) runs is = let same = wait
 poll_hears R x announced mark waits (poll.Follow p word register birth at) runs is = let same = waits is.0.acked_not in rw (same.0, same.1) is
 poll_hears R x announced mark waits (poll.Acknowledge p word m) runs is = let same = waits is.0.acked_not in rw (same.0, same.1) is
 poll_hears R x announced mark waits (poll.Ended e) runs is = absurd runs
-
--- A step of a collector leaves what a poll knows: no word is announced while the poll has one in hand.
-pub poll_hears_collector : (R : FieldWord → FieldWord → Type 0) (l : Sizes) (a b : Announced) (acked : ℕ → ℕ) (pass : ℕ) (x : Polled) (m : PollMachine) → AllAnswer l a acked → IsPass l pass → Advances l acked a b → x.view.acked ≡ acked pass → acked pass ≢ retired_word → x.announced ≡ a.word → IsRunning m → IsPolling R x m
-    → IsPolling R (record x { announced = b.word }) m
-poll_hears_collector R l a b acked pass x m all there step knows runs announced_is on is =
-    poll_hears R x b.word x.mark (λ waits. (announced_stays l a b acked pass all there step runs (λ e. waits (knows ∙ (e ∙ sym announced_is))) ∙ sym announced_is, refl)) m on is

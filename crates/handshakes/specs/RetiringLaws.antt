@@ -1,33 +1,17 @@
 -- What a retirement knows and has stored after each of its steps, and after those of others.
-use Rattle.std.proofs.Common.{◌≡◌, ◌≢◌, ℕ, ◌+◌, ◌-◌, ◌<◌, ◌≤◌, ◌==◌, inl, inr, refl, sym, ap, ◌∙◌, subst, arith, Bool, true, false, List, [], ◌∷◌, length, map, slice_index, if◌then◌else◌, Option, Some, None, zero, suc}
+use Rattle.std.proofs.Common.{◌≡◌, ◌≢◌, ℕ, ◌+◌, ◌-◌, ◌<◌, ◌≤◌, ◌==◌, inl, inr, refl, sym, ap, ◌∙◌, subst, arith, Bool, true, false, List, ◌∷◌, length, map, slice_index, if◌then◌else◌, Option, Some, None, zero, suc, []}
 use Rattle.std.proofs.lemmas.Bool.{eqb-true, eq-eqb, cases_eq}
-use Rattle.call_steps.specs.Steps.{place_of, put_by}
 use Rattle.call_steps.specs.StepLaws.{Put}
 use Rattle.heap_words.specs.declared.field_word.FieldWord.{FieldWord}
 use Rattle.heap_words.specs.FieldWords.{word_of}
-use Rattle.heap_words.specs.Layouts.{Sizes, IsPass, ack_at, root_at, region_at}
+use Rattle.heap_words.specs.Layouts.{Sizes, IsPass, root_at, region_at}
 use Rattle.handshakes.specs.declared.retire.Retire.{Retire}
 use Rattle.handshakes.specs.declared.retire.RetireMachine.{RetireMachine}
 use Rattle.handshakes.specs.declared.retire.RetireMachine.TheVariants as retire
 use Rattle.heap_words.specs.declared.limits.TheConstants.{REGISTERS}
-use Rattle.handshakes.specs.PhaseWords.{retired_word}
-use Rattle.handshakes.specs.Retires.{region_word_at, retire_of, asks_of, fed_of, stored_all, filled_word, register_before}
+use Rattle.handshakes.specs.Retires.{region_word_at, retire_of, asks_of, fed_of, stored_all, register_before}
 use Rattle.handshakes.specs.Polling.{held_in}
 use Rattle.handshakes.specs.Retiring.{Leaving, IsRetiring, stored_by, AreStored, retire_step}
-
--- it begins so, with nothing stored
-pub retire_begins : (l : Sizes) (x : Leaving) → IsRetiring l x (retire.Root (retire_of l x.pass x.registers x.region) (REGISTERS - 1))
-retire_begins l x = (refl, omega arith)
-
-pub none_stored : (l : Sizes) (m : ℕ → ℕ) (pass : ℕ) (registers : List FieldWord) → AreStored l m pass registers 0
-none_stored l m pass registers i small = absurd (omega (arith, small))
-
--- it never has more than there are
-pub stored_few : (m : RetireMachine) → stored_by m ≤ REGISTERS
-stored_few (retire.Root r later) = omega arith
-stored_few (retire.Region r at) = omega arith
-stored_few (retire.Acknowledge r) = omega arith
-stored_few retire.Ended = omega arith
 
 -- the word of a region is that of the pass's
 pub region_word_is : (l : Sizes) (region : Option ℕ) (at : ℕ) → region_word_at l region ≡ Some at → (i : ℕ) → region ≡ Some i → at ≡ region_at l i
@@ -105,17 +89,3 @@ region_is_apart l pass i None at there small e same = absurd cc
 region_is_apart l pass i (Some region) at there small e same =
     let is : region_at l region ≡ at = cc in
     omega (arith, there.0, there.1)
-
--- after its step, as many root words hold their registers' words as it says
-pub retire_stores : (l : Sizes) (x : Leaving) (k : RetireMachine) (found : ℕ) (m n : ℕ → ℕ) → IsPass l x.pass → IsRetiring l x k → Put m n (place_of (retire_step l x k)) (put_by (retire_step l x k) (m (place_of (retire_step l x k))))
-    → AreStored l m x.pass x.registers (stored_by k) → AreStored l n x.pass x.registers (stored_by (fed_of k found))
-retire_stores l x (retire.Root r later) found m n there is put stored =
-    stored_next l n x.pass x.registers r later is.1 (stored_more l m n x.pass x.registers (register_before later) put stored) (later == 0) refl
-retire_stores l x (retire.Region r at) found m n there is put stored =
-    stored_apart l m n x.pass x.registers REGISTERS at filled_word (λ i small. region_is_apart l x.pass i x.region at there small is.1) (omega arith) put stored
-retire_stores l x (retire.Acknowledge r) found m n there is put stored =
-    stored_apart l m n x.pass x.registers REGISTERS (ack_at x.pass) retired_word (λ i small same. omega (arith, there.0, there.1)) (omega arith) put stored
-retire_stores l x retire.Ended found m n there is put stored = stored_stays l m n x.pass x.registers REGISTERS (omega arith) (λ i small. elim (cases_eq (root_at l x.pass i) 0) [
-  | inl same ↦ absurd (omega arith)
-  | inr other ↦ put.elsewhere (root_at l x.pass i) other
-]) stored

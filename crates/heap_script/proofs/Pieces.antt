@@ -1,8 +1,8 @@
 -- What is cut off at a byte: the first line, the first word.
-use Rattle.std.proofs.Common.{◌≡◌, ℕ, ◌<◌, ◌≤◌, Bool, true, false, cond, ltb, eqb, List, [], ◌∷◌, length, Some, None, inl, inr, refl, sym, ap, ◌∙◌, arith}
+use Rattle.std.proofs.Common.{◌≡◌, ℕ, ◌<◌, ◌≤◌, Bool, true, false, cond, ltb, eqb, List, ◌∷◌, length, Some, None, inl, inr, refl, sym, ap, ◌∙◌, arith, []}
 use Rattle.std.specs.List.{filter, slice_split, before_first, after_first, position, position_or_len}
 use Rattle.std.specs.Str.Lines.{lines, lines_of_parts, strip_carriage_return}
-use Rattle.std.proofs.lemmas.Bool.{cases_lt, both_ways, eq-eqb, lt-ltb, le-ltb, ne_eqb, ltb-false}
+use Rattle.std.proofs.lemmas.Bool.{cases_lt, both_ways, eq-eqb, lt-ltb, ne_eqb, ltb-false}
 use Rattle.std.proofs.lemmas.List.Sums.{fails_before_first}
 use Rattle.std.proofs.lemmas.List.Elements.{All-from_get_or}
 use Rattle.std.proofs.lemmas.List.Splits.{slice_split_none, slice_split_first, length-slice_split}
@@ -43,11 +43,6 @@ pub words_last : (bs : List ℕ) → 0 < length bs → length bs ≤ position_or
 words_last bs some h =
     let yes : ltb 0 (length bs) ≡ true = lt-ltb _ _ some in
     rw (split_whole 32 bs h, yes) refl
-
-pub words_skip : (bs : List ℕ) → position_or_len (at 32) bs < length bs → length (before_first (at 32) bs) ≡ 0 → words bs ≡ words (after_first (at 32) bs)
-words_skip bs h none =
-    let no : ltb 0 (length (before_first (at 32) bs)) ≡ false = le-ltb _ _ (omega arith) in
-    ap (filter (λ w. ltb 0 (length w))) (slice_split_first (at 32) bs 0 h) ∙ rw no refl
 
 pub words_next : (bs : List ℕ) → position_or_len (at 32) bs < length bs → 0 < length (before_first (at 32) bs) → words bs ≡ before_first (at 32) bs ∷ words (after_first (at 32) bs)
 words_next bs h some =

@@ -2,7 +2,7 @@
 use Rattle.std.proofs.Common.{◌≡◌, ◌<◌, ◌≤◌, refl, ap, arith}
 use Rattle.heap_words.specs.declared.limits.TheConstants.{MOST_REGIONS}
 use Rattle.heap_words.specs.Layouts.{Sizes, IsLayout, regions_of, words_of}
-use Rattle.heap_words.specs.Places.{Place, IsPlace, place_at, HasPlacesApart}
+use Rattle.heap_words.specs.Places.{Place, IsPlace, place_at}
 use Rattle.heap_words.specs.Places.Place.{Phase, Mark, Greys, Ack, Root, RegionWord, Word, WideWord}
 
 -- at most this many regions
@@ -41,7 +41,3 @@ places-apart l (Word k i) (Word j n) hp hq e =
     cc
 places-apart l (WideWord i) (WideWord j) hp hq e = ap WideWord (omega arith)
 places-apart l p q hp hq e = absurd (omega arith)
-
--- both, of every layout
-pub has_places_apart : (l : Sizes) → HasPlacesApart l
-has_places_apart l = record { below = place-below l; apart = places-apart l }

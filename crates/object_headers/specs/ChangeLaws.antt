@@ -6,7 +6,7 @@ use Rattle.object_headers.specs.declared.header.Header.{Header}
 use Rattle.object_headers.specs.declared.change.Kind.{Kind}
 use Rattle.object_headers.specs.declared.change.Rule.{Rule}
 use Rattle.object_headers.specs.declared.change.Rule.TheVariants.{Forbidden, Free, Recolours, Keeps}
-use Rattle.object_headers.specs.Changes.{keeps_if, rule_of, Obeys, IsSameObject, AllowedChange}
+use Rattle.object_headers.specs.Changes.{keeps_if, rule_of, Obeys, IsSameObject}
 
 keeps_if-not_free : (has : Bool) → keeps_if has ≡ Free → ⊥
 keeps_if-not_free true e = cc
@@ -23,8 +23,3 @@ obeys-same Forbidden from to bound h = absurd h
 obeys-same Free from to bound h = absurd (bound refl)
 obeys-same Recolours from to bound h = h.0
 obeys-same Keeps from to bound h = h.0
-
--- a change that neither begins nor ends an object keeps its len and its birth number
-pub allowed-same : (kind : Kind) (from to : Header) → AllowedChange kind from to → from.state ≢ Absent → to.state ≢ Absent → IsSameObject from to
-allowed-same kind from to h a b =
-    obeys-same (rule_of kind from.state to.state) from to (not_free kind from.state to.state a b) h

@@ -1,18 +1,9 @@
 -- What packs unpacks, and no two region words share a word.
-use Rattle.std.proofs.Common.{◌≡◌, ℕ, ◌+◌, ◌*◌, ◌/◌, ◌%◌, ◌^◌, ◌<◌, ◌↔◌, Some, IsNone, IfSome, refl, ap, sym, ◌∙◌, arith}
+use Rattle.std.proofs.Common.{◌≡◌, ℕ, ◌+◌, ◌*◌, ◌/◌, ◌%◌, ◌^◌, ◌<◌, ◌↔◌, Some, refl, ap, sym, ◌∙◌, arith}
 use Rattle.std.proofs.lemmas.Bool.Decides.{nat_tests}
 use Rattle.space_reclaim.specs.declared.region_word.RegionWord.{RegionWord}
 use Rattle.space_reclaim.specs.declared.region_word.RegionWord.TheVariants.{Free, Taken, Filled, Source, Target}
-use Rattle.space_reclaim.specs.RegionWords.{IsRegionWord, word_of_region, region_word_of, region_word_at, HoldsNoRegion}
-
--- a packed word has the bits from 8 on clear
-pub word_of_region-below : (r : RegionWord) → IsRegionWord r → word_of_region r < 2 ^ 8
-unfolding word_of_region
-word_of_region-below Free h = omega arith
-word_of_region-below (Taken pass) h = omega arith
-word_of_region-below Filled h = omega arith
-word_of_region-below Source h = omega arith
-word_of_region-below Target h = omega arith
+use Rattle.space_reclaim.specs.RegionWords.{IsRegionWord, word_of_region, region_word_of, region_word_at}
 
 taken_again : (word pass : ℕ) → word ≡ 1 + 2 ^ 3 * pass → pass < 32 → region_word_of word ≡ Some (Taken pass)
 unfolding region_word_of
@@ -37,23 +28,3 @@ region_word_at-word_of_region r h = rw (region_word_of-word_of_region r h) refl
 pub word_of_region-injective : (r s : RegionWord) → IsRegionWord r → IsRegionWord s → word_of_region r ≡ word_of_region s → r ≡ s
 word_of_region-injective r s hr hs e =
     sym (region_word_at-word_of_region r hr) ∙ (ap region_word_at e ∙ region_word_at-word_of_region s hs)
-
--- a word is that of none exactly where its bits say so
-pub region_word_of-none : (word : ℕ) → IsNone (region_word_of word) ↔ HoldsNoRegion word
-unfolding region_word_of
-region_word_of-none word = grind (arith, nat_tests)
-
--- what unpacks fits
-pub region_word_of-fits : (word : ℕ) → IfSome (region_word_of word) IsRegionWord
-unfolding region_word_of
-region_word_of-fits word = grind (arith, nat_tests)
-
--- and a word is the packed word of what it holds
-pub word_of_region-region_word_of : (word : ℕ) → IfSome (region_word_of word) (λ r. word_of_region r ≡ word)
-unfolding region_word_of word_of_region
-word_of_region-region_word_of word = grind (arith, nat_tests)
-
--- 0 is the word of Free, and of nothing else
-pub region_word_at-free : (word : ℕ) → (region_word_at word ≡ Free) ↔ (word ≡ 0)
-unfolding region_word_at region_word_of
-region_word_at-free word = grind (arith, nat_tests)

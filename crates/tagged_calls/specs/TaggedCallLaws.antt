@@ -198,9 +198,6 @@ module _ (to_wide : Spot → Task → ℕ → Known) (goes_wide : GoesWide to_wi
 
     -- ---- the field is the object's, once the header was loaded
 
-    kept_found : (z : Spot) (t : Task) (y : State) → has_found (by_kept to_wide z t y) ≡ false
-    kept_found z t y = kept_holds to_wide (λ k. has_found k ≡ false) z t y (λ here. original_found z t) (λ to e. copy_found z t to) (λ wide e. goes_wide.found z t wide)
-
     header_found : (z : Spot) (t : Task) (y : State) (colour : Colour) (len : ℕ) → has_found (by_header to_wide z t y colour len) ≡ false
     header_found z t y colour len =
         header_holds to_wide (λ k. has_found k ≡ false) z t y colour len (λ here. original_found z t)

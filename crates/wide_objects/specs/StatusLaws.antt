@@ -1,14 +1,11 @@
 -- What packs unpacks, no two statuses share a word, and a status is what its wide word says.
-use Rattle.std.proofs.Common.{◌≡◌, ℕ, ◌+◌, ◌*◌, ◌^◌, ◌<◌, inl, Some, refl, ap, sym, ◌∙◌, arith}
-use Rattle.heap_words.specs.FieldWords.{word_of}
+use Rattle.std.proofs.Common.{◌≡◌, ℕ, ◌+◌, ◌*◌, ◌^◌, ◌<◌, Some, refl, ap, sym, ◌∙◌, arith}
 use Rattle.heap_words.specs.FieldWordLaws.{field_at-word_of}
 use Rattle.wide_objects.specs.declared.wide_word.Status2.{Status2}
 use Rattle.wide_objects.specs.declared.wide_word.Status2.TheVariants as Kinds
-use Rattle.wide_objects.specs.declared.wide_word.WideWord.{WideWord}
 use Rattle.wide_objects.specs.WideWords.{FitsStatus, IsWideWord, code_of, word_of_wide, wide_word_of, wide_word_at}
-use Rattle.wide_objects.specs.WideWordLaws.{packed-word_of, word_of-field_at, field_at-fits, word_of_wide-below, wide_word_of-word_of_wide, wide_word_at-word_of_wide}
-use Rattle.wide_objects.specs.Changes.{AllowedChange}
-use Rattle.wide_objects.specs.Statuses.{Status, InOriginal, InWide, InCopy, IsStatus, word_of_status, status_with, status_of_wide, status_at, wide_of_status, Rises}
+use Rattle.wide_objects.specs.WideWordLaws.{packed-word_of, word_of-field_at, field_at-fits, wide_word_of-word_of_wide, wide_word_at-word_of_wide}
+use Rattle.wide_objects.specs.Statuses.{Status, InOriginal, InWide, InCopy, IsStatus, word_of_status, status_with, status_of_wide, status_at, wide_of_status}
 
 -- the wide word of a status fits
 pub wide_of_status-fits : (u : Status) → IsStatus u → IsWideWord (wide_of_status u)
@@ -40,14 +37,6 @@ with_word Kinds.InOriginal word h = omega arith
 with_word Kinds.InWide word h = omega (arith, word_of-field_at word h)
 with_word Kinds.InCopy word h = omega (arith, word_of-field_at word h)
 
--- what a wide word that fits says has a word, which is its own
-pub status_of_wide-fits : (w : WideWord) → IsWideWord w → IsStatus (status_of_wide w)
-status_of_wide-fits w h = with_fits w.status w.word h
-
-pub word_of_status-status_of_wide : (w : WideWord) → IsWideWord w → word_of_status (status_of_wide w) ≡ word_of_wide w
-unfolding word_of_wide word_of_status
-word_of_status-status_of_wide w h = with_word w.status w.word h
-
 -- the word of a status unpacks as the wide word that says it
 pub wide_word_of-word_of_status : (u : Status) → IsStatus u → wide_word_of (word_of_status u) ≡ Some (wide_of_status u)
 wide_word_of-word_of_status u h =
@@ -65,15 +54,3 @@ status_at-word_of_status u h =
 pub word_of_status-injective : (u v : Status) → IsStatus u → IsStatus v → word_of_status u ≡ word_of_status v → u ≡ v
 word_of_status-injective u v hu hv e =
     sym (status_at-word_of_status u hu) ∙ (ap status_at e ∙ status_at-word_of_status v hv)
-
--- the word of a status is below 2^64
-pub word_of_status-below : (u : Status) → IsStatus u → word_of_status u < 2 ^ 64
-word_of_status-below u h =
-    omega (arith, word_of_wide-below (wide_of_status u) (wide_of_status-fits u h), word_of_wide-wide_of_status u)
-
--- a status that rises is a change that is allowed
-pub rises-allowed : (from to : Status) → Rises from to → AllowedChange (wide_of_status from) (wide_of_status to)
-rises-allowed InOriginal (InWide new) h = inl tt
-rises-allowed (InWide old) (InWide new) h = inl tt
-rises-allowed (InWide old) (InCopy new) h = inl (ap word_of h)
-rises-allowed from to h = absurd h

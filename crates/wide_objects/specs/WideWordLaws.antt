@@ -8,7 +8,7 @@ use Rattle.heap_words.specs.FieldWordLaws.{field_of-word_of, word_of-below, fiel
 use Rattle.wide_objects.specs.declared.wide_word.Status2.{Status2}
 use Rattle.wide_objects.specs.declared.wide_word.Status2.TheVariants.{InOriginal, InWide, InCopy}
 use Rattle.wide_objects.specs.declared.wide_word.WideWord.{WideWord}
-use Rattle.wide_objects.specs.WideWords.{IsPackedField, FitsStatus, IsWideWord, code_of, word_of_wide, status_bits, HoldsNoWide, at_rest, wide_word_of, wide_word_at}
+use Rattle.wide_objects.specs.WideWords.{IsPackedField, FitsStatus, IsWideWord, code_of, word_of_wide, status_bits, wide_word_of, wide_word_at}
 
 -- what a field packs into is the packed word of a field
 pub packed-word_of : (w : FieldWord) → IsFieldWord w → IsPackedField (word_of w)
@@ -67,11 +67,6 @@ pub wide_word_at-word_of_wide : (w : WideWord) → IsWideWord w → wide_word_at
 unfolding wide_word_at
 wide_word_at-word_of_wide w h = rw (wide_word_of-word_of_wide w h) refl
 
--- two wide words with one word are one
-pub word_of_wide-injective : (v w : WideWord) → IsWideWord v → IsWideWord w → word_of_wide v ≡ word_of_wide w → v ≡ w
-word_of_wide-injective v w hv hw e =
-    sym (wide_word_at-word_of_wide v hv) ∙ (ap wide_word_at e ∙ wide_word_at-word_of_wide w hw)
-
 field_of-none : (word : ℕ) → IsNone (field_of word) ↔ HoldsNoField word
 unfolding field_of
 field_of-none word = grind (arith, nat_tests)
@@ -84,27 +79,3 @@ field_of-low_bits word =
 -- bits 0 to 61 of a word that holds a field are the packed word of one
 pub packed-low_bits : (word : ℕ) → is_some (field_of word) ≡ true → IsPackedField (word % 2 ^ 62)
 packed-low_bits word there = (omega arith, ap is_some (field_of-low_bits word) ∙ there)
-
--- a word is that of none exactly where its bits say so
-pub wide_word_of-none : (word : ℕ) → word < 2 ^ 64 → IsNone (wide_word_of word) ↔ HoldsNoWide word
-unfolding wide_word_of
-wide_word_of-none word h =
-    let none : IsNone (field_of word) ↔ HoldsNoField word = field_of-none word in
-    grind (arith, nat_tests, none)
-
--- what unpacks fits
-pub wide_word_of-fits : (word : ℕ) → IfSome (wide_word_of word) IsWideWord
-unfolding wide_word_of
-wide_word_of-fits word =
-    let low : is_some (field_of word) ≡ true → IsPackedField (word % 2 ^ 62) = packed-low_bits word in
-    grind (arith, nat_tests, low)
-
--- and a word is the packed word of what it holds
-pub word_of_wide-wide_word_of : (word : ℕ) → word < 2 ^ 64 → IfSome (wide_word_of word) (λ w. word_of_wide w ≡ word)
-unfolding wide_word_of word_of_wide
-word_of_wide-wide_word_of word h = grind (arith, nat_tests)
-
--- the word at rest is 0
-pub word_of_wide-at_rest : word_of_wide at_rest ≡ 0
-unfolding word_of_wide
-word_of_wide-at_rest = refl

@@ -149,10 +149,6 @@ module _ (P : Protocol) (L : ProtocolLaws P) (c : Cycle) (s : Space) (w : AreObj
         len = set_else s.len a (s.to x) len e ∙ (q.len ∙ sym (set_else s.len a x len (not_a x i)));
       }
 
-  -- it is there, or it was there before
-  pub made_live : (x : ℕ) → IsLive (t.state x) → (x ≡ a) ⊎ ((x ≢ a) × IsLive (s.state x))
-  made_live x i = elim (number_tells x a) [ inl e ↦ inl e | inr n ↦ inr (n, rw (new_state x n) at i) ]
-
   pub made_objects : AreObjects P c t
   made_objects = record {
     placed = λ x g i lt. elim (number_tells x a) [

@@ -3,7 +3,6 @@ use Rattle.std.proofs.Common.{◌≡◌, ◌≢◌, ℕ, ◌<◌, inl, inr, refl
 use Rattle.heap_words.specs.declared.field_word.FieldWord.{FieldWord}
 use Rattle.wide_objects.specs.Statuses.{Status, InWide}
 use Rattle.space_reclaim.specs.declared.move_job.MoveJob.{MoveJob}
-use Rattle.space_reclaim.specs.declared.region_word.RegionWord.{RegionWord}
 use Rattle.heap_history.specs.NewestFirst.{Before}
 use Rattle.heap_history.specs.declared.call.Call.{Call}
 use Rattle.barriers.specs.States.{State, Absent, Plain, Kept, Tagged, Underway, IsHome, IsLive, On}
@@ -15,7 +14,6 @@ use Rattle.barriers.specs.Moves.{Carried, Idles, Looks, Lays, Points, Gives_up, 
 use Rattle.barriers.specs.Protocols.{Protocol}
 use Rattle.barriers.specs.ProtocolLaws.{ByPass, SameHead, ProtocolLaws}
 use Rattle.barriers.specs.Objects.{IsCarrying, IsForward, IsLaid, AreObjects, CopyAt, IsMove}
-use Rattle.barriers.specs.Says.{put_region}
 use Rattle.barriers.specs.Accesses.{put_word, put_status, put_state}
 use Rattle.barriers.specs.MoveTurns.{SameBody}
 use Rattle.barriers.proofs.words.Sets.{set_cases, set2_cases}
@@ -143,15 +141,6 @@ module _ (P : Protocol) (L : ProtocolLaws P) (c : Cycle) (s : Space) (w : AreObj
       by_case (Laid n under) = laid under g lt
 
   -- ---- the word of a region is stored
-  pub region_leaves_move : (k : ℕ) (x : RegionWord) → IsMove P c (put_region s k x) m j
-  region_leaves_move k x = move_goes (put_region s k x) all o.live o.apart copy o.head o.field
-    where
-      all : {a : ℕ} → SameBody s (put_region s k x) a
-      all = record { colour = refl; len = refl; birth = refl; to = refl; wide = refl }
-
-      copy : CopyAt (put_region s k x) m j
-      copy = copy_goes s (put_region s k x) m j (λ e. e) (laid_goes s (put_region s k x) j all all (λ e. e) (λ g. refl) refl) o.copy
-
   -- ---- a word is put
   module _ (b z f : ℕ) (v : FieldWord) (new : List Call) (later : (early : List Call) → Before early s.history → Before early new) (home : IsHome (s.state (s.home b))) (birth : s.birth (s.home b) ≡ b) (clean : Unmarked c v) (hold : On (Holds s) v)
       (site : Site c s (s.home b) z f v) (put : IsPut s.history new b f (value_of v)) where

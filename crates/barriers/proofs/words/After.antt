@@ -1,25 +1,21 @@
 -- After the step of a call: the words, the rows, and which header has changed.
-use Rattle.std.proofs.Common.{◌≡◌, ◌≢◌, ℕ, ◌⊎◌, true, List, Option, Some, None, inl, inr, refl, ap, sym, subst, ◌∙◌}
+use Rattle.std.proofs.Common.{◌≡◌, ◌≢◌, ℕ, ◌⊎◌, List, Option, Some, None, inl, inr, refl, ap, sym, subst, ◌∙◌}
 use Rattle.call_steps.specs.StepLaws.{Put}
 use Rattle.call_steps.specs.Steps.{place_of, put_by}
 use Rattle.heap_words.specs.Layouts.{Sizes}
 use Rattle.heap_words.specs.declared.field_word.FieldWord.{FieldWord}
-use Rattle.object_headers.specs.declared.change.Kind.{Kind}
-use Rattle.object_headers.specs.declared.change.Kind.TheVariants as kinds
-use Rattle.object_headers.specs.declared.header.Colour.{Colour}
-use Rattle.object_headers.specs.Changes.{does_tag, AllowedChange}
 use Rattle.object_headers.specs.Headers.{word_of_header}
 use Rattle.heap_history.specs.declared.call.Call.{Call}
 use Rattle.barriers.specs.declared.spot.Spot.{Spot}
-use Rattle.barriers.specs.States.{State, Absent, Kept, Tagged}
+use Rattle.barriers.specs.States.{Absent, Kept}
 use Rattle.barriers.specs.Spaces.{Space, here}
 use Rattle.barriers.specs.Cycles.{Cycle, Side}
-use Rattle.barriers.specs.Knowns.{Known, Keeps, Stores, Swaps, Swaps_wide, Stores_copy, Swaps_copy, Follows, Over, Finds, Header_word, at_field, spot_of, step_of, puts}
+use Rattle.barriers.specs.Knowns.{Known, Stores, Swaps, Swaps_wide, Stores_copy, Swaps_copy, Follows, Over, Finds, Header_word, at_field, spot_of, step_of}
 use Rattle.barriers.specs.Events.{Event, Quiet, Keep, event, put_event, keep_event}
-use Rattle.barriers.specs.Accesses.{put_state, space_by, space_after, history_after, found_in}
+use Rattle.barriers.specs.Accesses.{space_by, space_after, history_after, found_in}
 use Rattle.barriers.specs.Rows.{Rows}
 use Rattle.barriers.specs.Says.{Notices, header_by, header_in, Says, IsAtWord, IsPacked, IsKept}
-use Rattle.barriers.proofs.words.Sets.{set_cases, set_else}
+use Rattle.barriers.proofs.words.Sets.{set_cases}
 use Rattle.barriers.proofs.words.Rows.{rows_state}
 use Rattle.barriers.proofs.words.Headers.{live_there}
 use Rattle.barriers.proofs.words.Steps.{says_step, tagged_or}
@@ -54,9 +50,6 @@ rows_after l c side s k rows at = elim (spot_or k) [
 pub header_stays : (l : Sizes) (m next : ℕ → ℕ) (s t : Space) (n o : Notices) → Says l m s n → Says l next t o → (a : ℕ) → s.state a ≢ Absent → t.state a ≢ Absent → header_in t a ≡ header_in s a → next a ≡ m a
 header_stays l m next s t n o before after a there here same = after.objects.header a here ∙ (ap word_of_header same ∙ sym (before.objects.header a there))
 
-pub header_put : (s : Space) (a : ℕ) (x : State) (b : ℕ) → b ≢ a → header_in (put_state s a x) b ≡ header_in s b
-header_put s a x b ne = ap (λ y. header_by y (s.colour b) (s.len b) (s.birth b)) (set_else s.state a b x ne)
-
 -- no event but Keep changes a header
 pub header_by_event : (s : Space) (z : Spot) (h : List Call) (e : Event) (a : ℕ) → e ≢ Keep → header_in (space_by s z h e) a ≡ header_in s a
 header_by_event s z h Keep a ne = absurd (ne refl)
@@ -86,15 +79,3 @@ kept_or s z h a = elim (tagged_or (s.state z.at)) [
 ] where
   By : Event → Type 0
   By e = (let t = space_by s z h e in (header_in t a ≡ header_in s a) ⊎ ((a ≡ z.at) × IsKept s t a))
-
--- a call's step changes no header, but for that of its object from Tagged to Kept
-pub header_after : (c : Cycle) (side : Side) (s : Space) (k : Known) (a : ℕ) → (let t = space_after c s side k in (header_in t a ≡ header_in s a) ⊎ ((a ≡ (spot_of k).at) × IsKept s t a))
-header_after c side s (Keeps z t tagged) a = kept_or s z (history_after c s side (Keeps z t tagged)) a
-header_after c side s k a = inl (header_by_event s (spot_of k) (history_after c s side k) (event k (found_in c s k)) a (put_no_keep k (puts k (found_in c s k))))
-
--- which the table allows where there are tags
-pub kept_allowed : (kind : Kind) (colour : Colour) (len birth : ℕ) → does_tag kind ≡ true → AllowedChange kind (header_by Tagged colour len birth) (header_by Kept colour len birth)
-kept_allowed kinds.Stopless colour len birth e = ((refl, refl), refl)
-kept_allowed kinds.Chicken colour len birth e = ((refl, refl), refl)
-kept_allowed kinds.Clover colour len birth e = absurd (cc e)
-kept_allowed kinds.AtRest colour len birth e = absurd (cc e)

@@ -1,17 +1,14 @@
 -- What a call's step relies on, of what holds of the objects and of the call; and that words which hold fit.
-use Rattle.std.proofs.Common.{◌≡◌, ◌≢◌, ℕ, Option, Some, refl, arith, ap, sym, subst, ◌∙◌}
+use Rattle.std.proofs.Common.{◌≡◌, ◌≢◌, ℕ, Some, arith, ap, sym, ◌∙◌}
 use Rattle.heap_words.specs.Layouts.{Sizes, IsLayout}
 use Rattle.heap_words.specs.PlaceLaws.{words_of-bound}
-use Rattle.heap_words.specs.declared.field_word.FieldWord.{FieldWord}
 use Rattle.heap_words.specs.declared.field_word.FieldWord.TheVariants.{Link}
 use Rattle.heap_words.specs.FieldWords.{IsFieldWord}
-use Rattle.wide_objects.specs.Statuses.{Status}
 use Rattle.barriers.specs.declared.spot.Spot.{Spot}
-use Rattle.barriers.specs.States.{State, Absent, Plain, Kept, Tagged, Wide, Moving, Underway, Forward, Dead}
-use Rattle.barriers.specs.Spaces.{Space, Holds, Copied, zone}
+use Rattle.barriers.specs.Spaces.{Space, Holds}
 use Rattle.barriers.specs.Cycles.{Cycle, Side}
 use Rattle.barriers.specs.Knowns.{Known, Follows, Over, at_field, spot_of, copy_of, wide_of}
-use Rattle.barriers.specs.Objects.{AreObjects, IsCall, IsForward, IsCarrying, IsCopy}
+use Rattle.barriers.specs.Objects.{IsCall}
 use Rattle.barriers.specs.Protocols.{Protocol}
 use Rattle.barriers.specs.Rows.{Rows}
 use Rattle.barriers.specs.Says.{Notices, IsWritten, Says, IsAtWord}
@@ -23,23 +20,6 @@ pub spot_is : (k : Known) (z : Spot) → at_field k ≡ Some z → spot_of k ≡
 spot_is (Follows s t f) z e = absurd (cc e)
 spot_is (Over s t end) z e = absurd (cc e)
 spot_is k z e = cc e
-
--- where the place of a field is the copy, the copy has the field
-pub copy_has : (P : Protocol) (c : Cycle) (s : Space) → AreObjects P c s → (a : ℕ) (mark : Option FieldWord) (w : FieldWord) (u : Status) → zone mark (s.state a) w u ≡ Copied → IsWritten (s.state (s.to a)) × (s.len (s.to a) ≡ s.len a)
-copy_has P c s are a mark w u e = by (s.state a) refl e where
-  laid : IsCopy s a (s.to a) Underway → IsWritten (s.state (s.to a)) × (s.len (s.to a) ≡ s.len a)
-  laid o = (subst IsWritten (sym o.state) tt, o.len)
-
-  by : (x : State) → s.state a ≡ x → zone mark x w u ≡ Copied → IsWritten (s.state (s.to a)) × (s.len (s.to a) ≡ s.len a)
-  by (Wide wide) y z = laid (are.under a (subst IsCarrying (sym y) tt))
-  by (Moving to) y z = laid (are.under a (subst IsCarrying (sym y) tt))
-  by (Forward to) y z = (let o = are.copied a (subst IsForward (sym y) tt) in (subst IsWritten (sym o.state) tt, o.len))
-  by Absent y z = absurd (cc z)
-  by Plain y z = absurd (cc z)
-  by Kept y z = absurd (cc z)
-  by Tagged y z = absurd (cc z)
-  by Underway y z = absurd (cc z)
-  by Dead y z = absurd (cc z)
 
 module _ (P : Protocol) (c : Cycle) (s : Space) (side : Side) (k : Known) (call : IsCall P c s side k)
     (copy : (to : ℕ) → copy_of k ≡ Some to → (to ≡ s.to (spot_of k).at) × IsWritten (s.state to) × (s.len to ≡ s.len (spot_of k).at))

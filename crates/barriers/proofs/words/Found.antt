@@ -4,7 +4,6 @@ use Rattle.call_steps.specs.Steps.{place_of, IsInside}
 use Rattle.heap_words.specs.Layouts.{Sizes, words_of}
 use Rattle.heap_words.specs.FieldWords.{IsFieldWord, word_of}
 use Rattle.object_headers.specs.declared.header.Header.{Header}
-use Rattle.object_headers.specs.declared.header.State.TheVariants as states
 use Rattle.object_headers.specs.Headers.{IsHeader, word_of_header, header_at}
 use Rattle.object_headers.specs.HeaderLaws.{header_at-word_of_header}
 use Rattle.wide_objects.specs.Statuses.{IsStatus, word_of_status}
@@ -14,7 +13,7 @@ use Rattle.handshakes.specs.Follows as follows
 use Rattle.handshakes.specs.Follows.{place_by}
 use Rattle.barriers.specs.declared.spot.Spot.{Spot}
 use Rattle.barriers.specs.Spots as spots
-use Rattle.barriers.specs.States.{State, Absent, Plain, Kept, Tagged, Wide, Moving, Underway, Forward, Dead, IsHome, IsLive}
+use Rattle.barriers.specs.States.{Absent, Tagged, Forward, IsHome, IsLive}
 use Rattle.barriers.specs.Stances.{Stance, stance_at}
 use Rattle.barriers.specs.Spaces.{Space, Holds, here, copy_word}
 use Rattle.barriers.specs.Knowns.{Known, Checks, Loads_header, Keeps, Loads, Stores, Swaps, Loads_again, Loads_wide, Swaps_wide, Loads_late, Loads_address, Loads_copy, Stores_copy, Swaps_copy, Follows, Over, finds, at_field, spot_of, hand_of, step_of, word_followed, place_in}
@@ -42,20 +41,6 @@ module _ (l : Sizes) (m : ℕ → ℕ) (s : Space) (n : Notices) (rows : Rows l 
       place_of_forward (s.colour a) (s.len a) (s.birth a) to a (m a)
       (subst (λ x. IsHeader (header_by x (s.colour a) (s.len a) (s.birth a))) e (says.objects.header_fits a there))
       (says.objects.header a there ∙ ap (λ x. word_of_header (header_by x (s.colour a) (s.len a) (s.birth a))) e)
-
-  -- and a header that says Forward is that of a moved original
-  pub found_moved : (a : ℕ) → s.state a ≢ Absent → (let h = header_at (m a) in h.state) ≡ states.Forward → s.state a ≡ Forward (let h = header_at (m a) in h.target)
-  found_moved a there e = subst (λ (h : Header). s.state a ≡ Forward h.target) (sym (found_header a there)) (said (s.state a) (ap (λ (h : Header). h.state) (sym (found_header a there)) ∙ e)) where
-    said : (x : State) → (let h = header_by x (s.colour a) (s.len a) (s.birth a) in h.state) ≡ states.Forward → x ≡ Forward (let h = header_by x (s.colour a) (s.len a) (s.birth a) in h.target)
-    said (Forward to) y = refl
-    said Absent y = absurd (cc y)
-    said Plain y = absurd (cc y)
-    said Kept y = absurd (cc y)
-    said Tagged y = absurd (cc y)
-    said (Wide w) y = absurd (cc y)
-    said (Moving to) y = absurd (cc y)
-    said Underway y = absurd (cc y)
-    said Dead y = absurd (cc y)
 
   -- the header of the object of a call, of which this is known before
   pub header_word : (a : ℕ) (before : _) (birth : ℕ) → IsLive (s.state a) → s.birth a ≡ birth → IsOf before (header_in s a) → IsHeaderWord before birth (s.state a) (s.colour a) (s.len a) (m a)

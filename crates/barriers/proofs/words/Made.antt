@@ -1,14 +1,14 @@
 -- A new object after those of a region.
-use Rattle.std.proofs.Common.{◌≡◌, ◌≢◌, ℕ, refl, arith}
+use Rattle.std.proofs.Common.{◌≡◌, ◌≢◌, ℕ, refl}
 use Rattle.call_steps.specs.StepLaws.{Put}
 use Rattle.heap_words.specs.Layouts.{Sizes}
 use Rattle.object_headers.specs.declared.header.Colour.{Colour}
 use Rattle.heap_history.specs.declared.call.Call.{Call}
 use Rattle.barriers.specs.States.{Absent, Plain}
 use Rattle.barriers.specs.Spaces.{Space}
-use Rattle.barriers.specs.Rows.{region_of, Rows}
-use Rattle.barriers.specs.Says.{Notices, header_by, head_word, header_in, SayObjects, SayWide, Says, CanAppend, append}
-use Rattle.barriers.proofs.words.Begun.{begun, begun_absent, region_begun, rows_begun, header_begun, header_beside, says_begun}
+use Rattle.barriers.specs.Rows.{Rows}
+use Rattle.barriers.specs.Says.{Notices, head_word, header_in, SayObjects, SayWide, Says, CanAppend, append}
+use Rattle.barriers.proofs.words.Begun.{begun, begun_absent, rows_begun, header_beside, says_begun}
 
 module _ (l : Sizes) (s : Space) (rows : Rows l s.state s.len s.ends s.region) (k len birth : ℕ) (can : CanAppend l s k len birth) where
   plain_there : Plain ≢ Absent
@@ -17,9 +17,6 @@ module _ (l : Sizes) (s : Space) (rows : Rows l s.state s.len s.ends s.region) (
   -- nothing is where it begins
   pub absent_before : s.state (s.ends k) ≡ Absent
   absent_before = begun_absent l s rows k len birth can (s.ends k) refl Plain plain_there (λ c i b. refl)
-
-  pub region_of_end : region_of l (s.ends k) ≡ k
-  region_of_end = region_begun l s rows k len birth can (s.ends k) refl Plain plain_there (λ c i b. refl)
 
   module _ (colour : Colour) (call : Call) where
     abbrev a : ℕ
@@ -31,17 +28,10 @@ module _ (l : Sizes) (s : Space) (rows : Rows l s.state s.len s.ends s.region) (
     pub rows_made : Rows l S.state S.len S.ends S.region
     rows_made = rows_begun l s rows k len birth can a refl Plain plain_there (λ c i b. refl) colour
 
-    -- the new header, and the others
-    pub header_made : header_in S a ≡ header_by Plain colour len birth
-    header_made = header_begun l s rows k len birth can a refl Plain plain_there (λ c i b. refl) colour
-
     pub header_else : (b : ℕ) → b ≢ a → header_in S b ≡ header_in s b
     header_else b y = header_beside l s rows k len birth can a refl Plain plain_there (λ c i b. refl) colour b y
 
     module _ (m next : ℕ → ℕ) (n : Notices) (says : Says l m s n) (put : Put m next a (head_word Plain colour len birth)) where
-      pub zero_before : m a ≡ 0
-      zero_before = says.clear k a can.region (rows.least k) (let z = can.room in omega (arith, z)) (omega arith)
-
       begins : Says l next (begun s k a Plain colour len birth) n
       begins = says_begun l s rows k len birth can a refl Plain plain_there (λ c i b. refl) colour m next n says put
 

@@ -1,5 +1,5 @@
 -- The machine of a mover over the words: it asks for a step on a word that is there, and goes on as the table says.
-use Rattle.std.proofs.Common.{◌≡◌, ℕ, Option, Some, refl, ap, sym, subst, ◌∙◌}
+use Rattle.std.proofs.Common.{◌≡◌, ℕ, Option, Some, refl, sym, subst, ◌∙◌}
 use Rattle.call_steps.specs.StepLaws.{Put}
 use Rattle.call_steps.specs.Steps.{place_of, put_by, IsInside}
 use Rattle.call_steps.specs.declared.step.Step.{Step}
@@ -21,10 +21,6 @@ use Rattle.barriers.proofs.words.MoveStores.{says_moved}
 module _ {R W E M : Type 0} (kit : Kit R W E M) (by : Stepping R W E M) (laws : Laws kit by) (mark : Option FieldWord) (m : M) (own : kit.MovesFor mark m) where
   asks : by.move_asks m ≡ move_step kit.kind mark (kit.moves m)
   asks = laws.moving.asks_alike mark m own
-
-  -- it has ended exactly where it has no job
-  pub idles_ended : kit.moves m ≡ Idles → by.move_asks m ≡ Ended
-  idles_ended e = asks ∙ ap (move_step kit.kind mark) e
 
   pub ended_idles : by.move_asks m ≡ Ended → kit.moves m ≡ Idles
   ended_idles e = by_step (kit.moves m) (sym asks ∙ e) where

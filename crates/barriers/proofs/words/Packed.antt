@@ -10,8 +10,8 @@ use Rattle.barriers.specs.declared.spot.Spot.{Spot}
 use Rattle.barriers.specs.States.{same_word}
 use Rattle.barriers.specs.Stances.{Stance, phase_of}
 use Rattle.barriers.specs.Values.{value_of}
-use Rattle.barriers.specs.Knowns.{Task, Reads, Writes, Exchanges, Known, Loads, Stores, Swaps, Loads_copy, Stores_copy, Swaps_copy, Finds, Nothing, Phase_word, Header_word, Field_word, Wide_word, Address, followed, closes}
-use Rattle.barriers.specs.PlainCalls.{to_original, to_copy, loaded, again, lost, exchanged, plainly_fed}
+use Rattle.barriers.specs.Knowns.{Task, Reads, Writes, Exchanges, Known, Finds, Nothing, Phase_word, Header_word, Field_word, Wide_word, Address, followed, closes}
+use Rattle.barriers.specs.PlainCalls.{loaded, again, lost, exchanged}
 use Rattle.barriers.specs.Kits.{IsWordOf}
 use Rattle.barriers.specs.Says.{FitsTask, IsChange, IsPacked, FitsFound}
 
@@ -23,16 +23,6 @@ found_fits k (Header_word x colour len) n h = tt
 found_fits k (Field_word w) n h = h.1
 found_fits k (Wide_word u) n h = h.1
 found_fits k (Address to) n h = tt
-
-pub packed_original : (z : Spot) (t : Task) → FitsTask t → IsPacked (to_original z t)
-packed_original z Reads f = record { task = tt; from = tt }
-packed_original z (Writes w) f = record { task = f; from = tt }
-packed_original z (Exchanges e w) f = record { task = f; from = tt }
-
-pub packed_copy : (z : Spot) (t : Task) (to : ℕ) → FitsTask t → IsPacked (to_copy z t to)
-packed_copy z Reads to f = record { task = tt; from = tt }
-packed_copy z (Writes w) to f = record { task = f; from = tt }
-packed_copy z (Exchanges e w) to f = record { task = f; from = tt }
 
 packed_followed : (z : Spot) (t : Task) (m : FollowMachine) → FitsTask t → IsPacked (followed z t m)
 packed_followed z t (follow.Header birth at) f = record { task = f; from = tt }
@@ -63,13 +53,3 @@ module _ (swaps : Task → FieldWord → ℕ → Known) (packed : (t : Task) (x 
 
   pub packed_exchanged : (t : Task) (x y : FieldWord) (i : ℕ) → FitsTask t → IsFieldWord y → IsPacked (exchanged (swaps t) acked z t x y i)
   packed_exchanged t x y i f g = packed_if (same_word y x) _ _ (record { task = f; from = tt }) (packed_lost t x y i f g)
-
--- a step at a plain word
-pub packed_plain : (acked : Stance) (k : Known) (found : Finds) → IsPacked k → FitsFound found → IsPacked (plainly_fed acked k found)
-packed_plain acked (Loads z t) (Field_word x) p g = packed_loaded (Swaps z) (λ u v i f c h. record { task = f; from = (h, c) }) acked z t x p.task g
-packed_plain acked (Stores z w) found p g = record { task = p.task; from = tt }
-packed_plain acked (Swaps z t x i) (Field_word y) p g = packed_exchanged (Swaps z) (λ u v j f c h. record { task = f; from = (h, c) }) acked z t x y i p.task g
-packed_plain acked (Loads_copy z t to) (Field_word x) p g = packed_loaded (λ u. Swaps_copy z u to) (λ u v i f c h. record { task = f; from = (h, c) }) acked z t x p.task g
-packed_plain acked (Stores_copy z w to) found p g = record { task = p.task; from = tt }
-packed_plain acked (Swaps_copy z t to x i) (Field_word y) p g = packed_exchanged (λ u. Swaps_copy z u to) (λ u v j f c h. record { task = f; from = (h, c) }) acked z t x y i p.task g
-packed_plain acked k found p g = p

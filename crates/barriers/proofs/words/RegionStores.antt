@@ -13,23 +13,16 @@ use Rattle.barriers.specs.Says.{Notices, SayObjects, SayWide, Says, put_region}
 use Rattle.barriers.proofs.words.Sets.{set_cases}
 use Rattle.barriers.proofs.words.Regions.{region_below, region_apart}
 use Rattle.barriers.proofs.words.Rows.{rows_region}
-use Rattle.barriers.proofs.words.Frames.{put_before, put_after, same_notices, same_objects, same_clear, same_wide, says_same, exchange_won, exchange_lost}
+use Rattle.barriers.proofs.words.Frames.{put_before, put_after, same_notices, same_objects, same_clear, same_wide, exchange_won}
 
 free_word : word_of_region regions.Free ≡ 0
 unfolding word_of_region
 free_word = refl
 
 module _ (l : Sizes) (m : ℕ → ℕ) (s : Space) (n : Notices) (rows : Rows l s.state s.len s.ends s.region) (says : Says l m s n) where
-  -- the words of a Free region are 0
-  pub free_is_clear : (k x : ℕ) → IsRegion l k → s.region k ≡ regions.Free → first_word l k ≤ x → x < first_word l k + 64 → m x ≡ 0
-  free_is_clear k x r free lo hi = says.clear k x r lo hi (let z = rows.empty k free in omega (arith, z, lo))
-
   -- 0 is the word of a Free region, and of no other
   pub found_free : (k : ℕ) → IsRegion l k → m (region_at l k) ≡ 0 → s.region k ≡ regions.Free
   found_free k r e = word_of_region-injective (s.region k) regions.Free (says.regions.fits k r) tt (sym (says.regions.word k r) ∙ (e ∙ sym free_word))
-
-  pub found_taken : (k : ℕ) → IsRegion l k → m (region_at l k) ≢ 0 → s.region k ≢ regions.Free
-  found_taken k r ne e = ne (says.regions.word k r ∙ (ap word_of_region e ∙ free_word))
 
   module _ (next : ℕ → ℕ) where
     pub says_region : (k : ℕ) (x : RegionWord) → IsRegion l k → IsRegionWord x → Put m next (region_at l k) (word_of_region x) → Says l next (put_region s k x) n
@@ -54,20 +47,10 @@ module _ (l : Sizes) (m : ℕ → ℕ) (s : Space) (n : Notices) (rows : Rows l 
           wide = record { address = wide.address; address_fits = wide.address_fits; status = wide.status; status_fits = wide.status_fits; inside = wide.inside; apart = wide.apart };
         }
 
-    -- of regions whose objects are to be moved, or that are to have their copies
-    pub says_source : (k : ℕ) → IsRegion l k → Put m next (region_at l k) (word_of_region regions.Source) → Says l next (put_region s k regions.Source) n
-    says_source k r put = says_region k regions.Source r tt put
-
-    pub says_target : (k : ℕ) → IsRegion l k → Put m next (region_at l k) (word_of_region regions.Target) → Says l next (put_region s k regions.Target) n
-    says_target k r put = says_region k regions.Target r tt put
-
     -- a claim's exchange: it found Free, and the region is taken, or it found another word, and nothing changes
     module _ (k pass : ℕ) (r : IsRegion l k) (low : pass < 32) (put : Put m next (region_at l k) (either (m (region_at l k) == 0) (word_of_region (regions.Taken pass)) (m (region_at l k)))) where
       pub says_claimed : m (region_at l k) ≡ 0 → Says l next (put_region s k (regions.Taken pass)) n
       says_claimed e = says_region k (regions.Taken pass) r low (exchange_won m next (region_at l k) 0 (word_of_region (regions.Taken pass)) e put)
-
-      pub says_unclaimed : m (region_at l k) ≢ 0 → Says l next s n
-      says_unclaimed ne = says_same l m next s n (exchange_lost m next (region_at l k) 0 (word_of_region (regions.Taken pass)) ne put) rows says
 
 -- objects lie as they did where a region's word becomes another one than Free's
 pub rows_used : (l : Sizes) (s : Space) (k : ℕ) (x : RegionWord) → x ≢ regions.Free → Rows l s.state s.len s.ends s.region → (let t = put_region s k x in Rows l t.state t.len t.ends t.region)

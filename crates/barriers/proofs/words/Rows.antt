@@ -259,37 +259,3 @@ module _ (l : Sizes) (state : ℕ → State) (len ends : ℕ → ℕ) (region : 
 
     ends_other : (j : ℕ) → j ≢ k → F j ≡ ends j
     ends_other j n = set_else ends k j (first_word l k) n
-
-    pub rows_none : Rows l S2 len F region
-    rows_none = record {
-      above = λ a h. w.above a (none_was a h).1;
-      short = λ a h. w.short a (none_was a h).1;
-      inside = λ a h. (let o = none_was a h in rw (ends_other (region_of l a) o.0) (w.inside a o.1));
-      apart = λ a b h g lt. w.apart a b (none_was a h).1 (none_was b g).1 lt;
-      follow = λ a h. (let o = none_was a h in elim (cases_eq (a + 1 + len a) (ends (region_of l a))) [
-        | inl q ↦ inl (q ∙ sym (ends_other (region_of l a) o.0))
-        | inr q ↦ elim (w.follow a o.1) [
-          | inl y ↦ absurd (q y)
-          | inr y ↦ inr (none_goes (a + 1 + len a) (λ e. o.0 (sym (same_region a o.1 q) ∙ e)) y)
-        ]
-      ]);
-      begin = λ j. elim (set_cases ends k j (first_word l k)) [
-        | inl q ↦ inl (q.1 ∙ ap (first_word l) (sym q.0))
-        | inr q ↦ elim (w.begin j) [
-          | inl y ↦ inl (q.1 ∙ y)
-          | inr y ↦ inr (none_goes (first_word l j) (λ e. q.0 (sym (region_is l (first_word l j) j (omega arith) (let z = first_next l j in omega (arith, z))) ∙ e)) y)
-        ]
-      ];
-      least = λ j. elim (set_cases ends k j (first_word l k)) [
-        | inl q ↦ (let i = q.1 in let f : first_word l j ≡ first_word l k = ap (first_word l) q.0 in omega (arith, i, f))
-        | inr q ↦ (let i = q.1 in let z = w.least j in omega (arith, i, z))
-      ];
-      most = λ j. elim (set_cases ends k j (first_word l k)) [
-        | inl q ↦ (let i = q.1 in let f : first_word l j ≡ first_word l k = ap (first_word l) q.0 in omega (arith, i, f))
-        | inr q ↦ (let i = q.1 in let z = w.most j in omega (arith, i, z))
-      ];
-      empty = λ j e. elim (set_cases ends k j (first_word l k)) [
-        | inl q ↦ q.1 ∙ ap (first_word l) (sym q.0)
-        | inr q ↦ q.1 ∙ w.empty j e
-      ];
-    }

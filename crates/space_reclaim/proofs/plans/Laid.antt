@@ -1,5 +1,5 @@
 -- Each copy is laid where those before it end in its region, and the free regions are filled one after another.
-use Rattle.std.proofs.Common.{◌≡◌, ◌≢◌, ℕ, ◌+◌, ◌*◌, ◌/◌, ◌%◌, ◌<◌, ◌≤◌, ◌⊎◌, List, [], ◌∷◌, length, get_or, ap, sym, ◌∙◌, arith, inl, inr}
+use Rattle.std.proofs.Common.{◌≡◌, ◌≢◌, ℕ, ◌+◌, ◌*◌, ◌/◌, ◌%◌, ◌<◌, ◌≤◌, ◌⊎◌, List, ◌∷◌, length, get_or, ap, sym, ◌∙◌, arith, inl, inr, []}
 use Rattle.std.specs.List.{All, AllPairs, Any}
 use Rattle.std.proofs.lemmas.Bool.Decides.{eqb_tells, nat_tests}
 use Rattle.std.proofs.lemmas.List.Elements.{All-nil, All-cons, All-head, All-tail, All-weaker}
@@ -53,10 +53,6 @@ pub record EndsAt (l : Sizes) (pool : List ℕ) (ends : ℕ → ℕ) (used : ℕ
   pub here : used / 64 < length pool → ends (get_or pool (used / 64) 0) ≡ first_word l (get_or pool (used / 64) 0) + used % 64
 
 module _ (s : Space) (rises : AllPairs (λ a b. a < b) s.pool_free) where
-  -- the region of the strip's word
-  pool_at : ℕ → ℕ
-  pool_at n = get_or s.pool_free (n / 64) 0
-
   -- the job copies to the region of the word of the strip at which its copy begins
   pub target_is : (used words : ℕ) (o : ObjectRow) → target_of s.layout (job_after s used words o) ≡ get_or s.pool_free (begins_after used o.len / 64) 0
   target_is used words o = around_is s.layout (get_or s.pool_free (begins_after used o.len / 64) 0) (begins_after used o.len % 64) (omega arith)
@@ -144,9 +140,6 @@ module _ (s : Space) (rises : AllPairs (λ a b. a < b) s.pool_free) where
   laid_first ends objects free lens fits = jobs_laid ends 0 0 objects lens (ends_first ends free) fits
 
   -- ---- the regions to which jobs copy
-
-  begun_more : (used n : ℕ) → n ≤ 30 → begins_after used n / 64 < regions_begun (begins_after used n + n + 1)
-  begun_more used n few = omega (arith)
 
   -- a region that a copy begins is that in which it lies
   begun_here : (used n k : ℕ) → n ≤ 30 → regions_begun used ≤ k → k < regions_begun (begins_after used n + n + 1) → begins_after used n / 64 ≡ k

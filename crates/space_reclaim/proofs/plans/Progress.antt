@@ -1,5 +1,5 @@
 -- How far a plan has come: the regions chosen of the rows that were looked at, their jobs, and what these use.
-use Rattle.std.proofs.Common.{◌≡◌, ℕ, ◌+◌, ◌*◌, ◌<◌, ◌≤◌, Bool, true, false, ◌&&◌, nat_le, if◌then◌else◌, List, [], ◌∷◌, ◌++◌, length, get_or, take, drop, Option, Some, None, not, ◌||◌, refl, ap, sym, subst, add-one, ◌∙◌, arith, length-append}
+use Rattle.std.proofs.Common.{◌≡◌, ℕ, ◌+◌, ◌*◌, ◌<◌, ◌≤◌, Bool, true, false, ◌&&◌, nat_le, if◌then◌else◌, List, ◌∷◌, ◌++◌, length, get_or, take, drop, Option, Some, None, not, ◌||◌, refl, ap, sym, subst, add-one, ◌∙◌, arith, length-append, []}
 use Rattle.std.specs.List.{All}
 use Rattle.std.proofs.Math.Seq.{drop-cons}
 use Rattle.std.proofs.lemmas.Bool.Decides.{nat_tests}
@@ -29,21 +29,6 @@ pub record IsPlannedTo (s : Space) (rows : List RegionLive) (objects : List Obje
   pub found : IsFound s.layout left rest
   pub same : All (λ r. objects_in objects r.region ≡ objects_in rest r.region) left
   pub few : length chosen + length left ≤ length rows
-
--- before the first row
-pub planned_to-start : (s : Space) (rows : List RegionLive) (objects : List ObjectRow) → IsFound s.layout rows objects → IsPlannedTo s rows objects rows objects [] [] 0 0
-planned_to-start s rows objects found = record {
-  plan = refl;
-  laid = refl;
-  used = refl;
-  taken = refl;
-  less = omega arith;
-  count = omega arith;
-  room = omega arith;
-  found = found;
-  same = λ k d below. refl;
-  few = omega arith;
-}
 
 laid_with : (s : Space) (before own : List ObjectRow) (jobs : List MoveJob) (strip words : ℕ) → jobs ≡ jobs_after s 0 0 before → strip ≡ strip_after 0 before → words ≡ words_of before → jobs ++ jobs_after s strip words own ≡ jobs_after s 0 0 (before ++ own)
 laid_with s before own jobs strip words laid used taken =
@@ -117,10 +102,6 @@ module _ {s : Space} {rows : List RegionLive} {objects : List ObjectRow} {r : Re
   -- whether it is chosen
   pub is_chosen-next : is_chosen s objects chosen r ≡ (nat_le r.words 32 && has_room s (strip_after strip (take (front r.region rest) rest)) (words + words_of (take (front r.region rest) rest)))
   is_chosen-next = rw (strip_with, words_with) refl
-
-  -- there is room for the jobs of what fits
-  pub jobs-room : strip_after strip (take (front r.region rest) rest) ≤ 64 * length s.pool_free → length jobs + length (take (front r.region rest) rest) ≤ 64 * length s.pool_free
-  jobs-room fits = omega (arith, p.count, length-le-words_of (take (front r.region rest) rest), strip_after-least strip (take (front r.region rest) rest) own_lens)
 
   -- a region that is passed over uses nothing
   pub planned_to-passed : is_chosen s objects chosen r ≡ false → IsPlannedTo s rows objects left (drop (front r.region rest) rest) chosen jobs strip words
