@@ -66,6 +66,13 @@ impl Noted {
         })
     }
 
+    /// The layout that it has room for.
+    pub fn layout(&self) -> &Layout
+        ensures { result.now ≡ self.now.layout }
+    {
+        &self.layout
+    }
+
     /// The regions that were Filled, in rising number, each with the words of its live objects.
     pub fn live(&self) -> &[RegionLive]
         ensures { result.now ≡ self.now.live }

@@ -154,3 +154,12 @@ plan_with s objects chosen = let moved = objects_in_all objects chosen in record
 -- the plan for what was found
 abbrev pub plan_of : Space → List RegionLive → List ObjectRow → Planned
 plan_of s rows objects = plan_with s objects (chosen_after s objects [] rows)
+
+-- the regions without live words
+abbrev pub empty_regions : List RegionLive → List ℕ
+empty_regions [] = []
+empty_regions (r ∷ rest) = if r.words == 0 then r.region ∷ empty_regions rest else empty_regions rest
+
+-- the plan of a cycle that copies nothing: it empties these regions
+abbrev pub plan_without_copies : Sizes → List RegionLive → Planned
+plan_without_copies l rows = record (nothing_planned l) { chosen = empty_regions rows }

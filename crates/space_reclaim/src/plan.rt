@@ -1,7 +1,7 @@
 //! Which regions a cycle empties, and where the copy of each of their objects is laid.
 
-ghost use Rattle.std.specs.Prelude.{◌≡◌, ◌≢◌, ◌+◌, ◌≤◌, ◌==◌, ◌++◌, length, vec_len, vec_capacity, IfOk};
-ghost use Rattle.std.specs.List.{prefix_len};
+ghost use Rattle.std.specs.Prelude.{◌≡◌, ◌≢◌, ◌+◌, ◌<◌, ◌≤◌, ◌==◌, ◌++◌, length, vec_len, vec_capacity, IfOk};
+ghost use Rattle.std.specs.List.{All, AllPairs, prefix_len};
 
 use crate::move_job::MoveJob;
 use crate::space::{Space, Used};
@@ -76,7 +76,8 @@ impl Model for Plan {
 }
 
 impl Plan {
-    ghost use Rattle.space_reclaim.specs.Plans.{IsSpace, IsFound, space_of, plan_of, nothing_planned};
+    ghost use Rattle.heap_words.specs.Layouts.{IsRegion};
+    ghost use Rattle.space_reclaim.specs.Plans.{IsSpace, IsFound, space_of, plan_of, nothing_planned, plan_without_copies};
     ghost use Rattle.space_reclaim.specs.PlanMeanings.{EmptiesChosen, AreCopiesApart, FillsTargets, AreLaidInOrder, AreWideLaid, HasNoWide};
 
     /// The empty plan, with room for all that the layout can have.
@@ -124,6 +125,30 @@ impl Plan {
         self.jobs.as_slice()
     }
 
+    /// Forgets what was planned.
+    pub fn forget(&mut self)
+        ensures { self.new ≡ nothing_planned self.old.layout }
+    {
+        self.chosen.clear();
+        self.targets.clear();
+        self.jobs.clear();
+        self.wide_words = 0;
+    }
+
+    /// Plans a cycle that copies nothing: it empties the regions that were found Filled and have no live words.
+    pub fn fill_without_copies(&mut self, rows: &[RegionLive])
+        requires rises { AllPairs (λ r s. r.region < s.region) rows.now }
+        requires regions { All (λ r. IsRegion self.old.layout r.region) rows.now }
+        ensures { self.new ≡ plan_without_copies self.old.layout rows.now }
+    {
+        self.forget();
+        for row in rows {
+            if row.words == 0 {
+                self.chosen.push_reserved(row.region);
+            }
+        }
+    }
+
     /// Plans the copies of a cycle anew, from the regions that were found Filled, their live objects, the
     /// regions of the pool that were found Free, and the free words of the wide area. All lists rise by
     /// region and address.
@@ -155,9 +180,7 @@ impl Plan {
         ensures wide { kind ≡ Kind.Stopless → AreWideLaid (space_of self.old.layout pool_free.now wide_free kind) self.new }
         ensures narrow { kind ≢ Kind.Stopless → HasNoWide self.new }
     {
-        self.chosen.clear();
-        self.targets.clear();
-        self.jobs.clear();
+        self.forget();
         let space = Space {
             layout: self.layout,
             pool_free,

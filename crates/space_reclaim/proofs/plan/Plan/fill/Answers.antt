@@ -62,7 +62,7 @@ loop-row-preserved c =
 
 pub returns-clause-plan : goal.returns-clause-plan
 returns-clause-plan c =
-    let same = ap (λ (plan : Planned). plan.layout) c.self.view_is in
+    let same = ap (λ (plan : Planned). plan.layout) c.self.view_is ∙ ap (λ (plan : Planned). plan.layout) c.forget.ensures in
     subst (λ l. record { layout = c.loop-row.self-inside.layout; chosen = c.loop-row.self-inside.chosen.items; targets = c.add_regions.new.list.items; jobs = c.loop-row.self-inside.jobs.items; wide_words = c.wide_words-self-inside.result } ≡ plan_of (space_of l c.args.pool_free.now c.args.wide_free c.args.kind) c.args.rows.now c.args.objects.now) same
     (planned_is c.loop-row.row-index c.loop-row.self-inside.layout c.add_regions.new.list.items c.wide_words-self-inside.result c.loop-row.invariant.progress c.loop-row-test.false
     (c.loop-row.invariant.layout ∙ sym same)
