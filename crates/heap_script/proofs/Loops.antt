@@ -13,7 +13,7 @@ use Rattle.heap_script.specs.declared.fault.ReadScriptFault.{ReadScriptFault}
 use Rattle.heap_script.specs.declared.fault.ReadScriptFault.TheVariants as faults
 use Rattle.heap_script.specs.declared.script.Line.{Line}
 use Rattle.heap_script.specs.Scripts.{Reading}
-use Rattle.heap_script.specs.Grammar.{◌>>=◌, Fault, each_from, commands_from, heap_line, script_from}
+use Rattle.heap_script.specs.Grammar.{◌>>=◌, Fault, each_from, commands_from, heap_line, script_from, has_heap_line}
 use Rattle.heap_script.specs.Gives.{Fails}
 
 -- ---- what each line says
@@ -99,6 +99,15 @@ script_commands_fail last n h line after ls faults.OutOfMemory total e said read
 script_commands_fail last n h line after ls (faults.Script at kind) total e said read so_far =
     let one : script_from last n ls ≡ Err (at, kind) = rw (e, said, read) refl in
     sym so_far ∙ one
+
+-- ---- whether there is a heap line
+
+-- a line that says nothing leaves it open
+pub heap_line_later : (line : List ℕ) (after ls : List (List ℕ)) → ls ≡ line ∷ after → heap_line line ≡ Ok None → has_heap_line ls ≡ has_heap_line after
+heap_line_later line after ls e said = rw (e, said) refl
+
+pub heap_line_here : (h : Sizes × ℕ) (line : List ℕ) (after ls : List (List ℕ)) → ls ≡ line ∷ after → heap_line line ≡ Ok (Some h) → has_heap_line ls ≡ true
+heap_line_here h line after ls e said = rw (e, said) refl
 
 -- ---- what is read fits
 

@@ -1,5 +1,5 @@
 -- The grammar of scripts: what each line says, or the first thing that is wrong with it.
-use Rattle.std.specs.Prelude.{Bool, ℕ, ◌+◌, ◌-◌, ◌^◌, List, [], ◌∷◌, length, codes, count_by, ◌&&◌, not, nat_lt, nat_le, ◌==◌, Option, Some, None, Result, Ok, Err, is_none, if◌then◌else◌, slice_index}
+use Rattle.std.specs.Prelude.{Bool, ℕ, ◌+◌, ◌-◌, ◌^◌, List, [], ◌∷◌, length, codes, count_by, ◌&&◌, not, nat_lt, nat_le, ◌==◌, Option, Some, None, Result, Ok, Err, is_none, if◌then◌else◌, slice_index, true, false}
 use Rattle.std.specs.List.{before_first, after_first, position_or_len}
 use Rattle.std.specs.Str.{bytes_eq}
 use Rattle.std.specs.Str.Lines.{lines}
@@ -210,6 +210,17 @@ heap_line line =
     else (do
       h ← heading (words line)
       Ok (Some h))
+
+-- a line is a heap line, or says nothing and this is so of those after it
+abbrev pub is_heap_or : Result (Option Heading) FaultKind → Bool → Bool
+is_heap_or (Ok (Some h)) later = true
+is_heap_or (Ok None) later = later
+is_heap_or (Err kind) later = false
+
+-- the first line that says anything is a heap line, and no line up to it has a fault
+abbrev pub has_heap_line : List (List ℕ) → Bool
+has_heap_line [] = false
+has_heap_line (line ∷ after) = is_heap_or (heap_line line) (has_heap_line after)
 
 -- what a line says after the heap line and a number of commands: nothing, or a command
 unfoldable pub command_line : ℕ → ℕ → List ℕ → Result (Option Line) FaultKind

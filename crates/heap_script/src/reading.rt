@@ -1,11 +1,12 @@
 //! Reading a script.
 
-ghost use Rattle.std.specs.Prelude.{◌≡◌, ◌≤◌, ◌<◌, ◌^◌, ◌+◌, ◌∷◌, ◌++◌, List, length, IfOk, IfErr, OnOk, All, Ok, Err, count_by, ◌==◌};
+ghost use Rattle.std.specs.Prelude.{◌≡◌, ◌≤◌, ◌<◌, ◌^◌, ◌+◌, ◌∷◌, ◌++◌, List, length, IfOk, IfErr, OnOk, All, Ok, Err, IsTrue, count_by, ◌==◌};
 ghost use Rattle.std.specs.Option.{option_to_list};
 ghost use Rattle.std.specs.Str.Lines.{lines};
 ghost use Rattle.heap_script.specs.Scripts.{Reading, Fits, LineFits};
 ghost use Rattle.heap_script.specs.Gives.{Reads, IsAnswer, IfScriptFault};
-ghost use Rattle.heap_script.specs.Grammar.{Fault, commands_from, script_from, script_of};
+ghost use Rattle.heap_script.specs.Grammar.{Fault, commands_from, script_from, script_of, has_heap_line};
+ghost use Rattle.heap_script.specs.declared.fault.ReadScriptFault.TheVariants.{OutOfMemory};
 ghost use Rattle.heap_script.specs.FirstFault.{IsScript, IsFault};
 ghost use Rattle.heap_script.specs.Text.{text_of};
 
@@ -65,6 +66,7 @@ fn script(alloc: Global, bytes: &[u8]) -> Result<Script, ReadScriptFault>
     requires { length bytes.now < 2 ^ 31 }
     ensures exact { IsAnswer result (script_of bytes.now) }
     ensures fits { IfOk result Fits }
+    ensures memory { result ≡ Err OutOfMemory → IsTrue (has_heap_line (lines bytes.now)) }
 {
     let mut rest = bytes;
     let mut number = 1;
@@ -115,6 +117,9 @@ pub fn read_script(alloc: Global, bytes: &[u8]) -> Result<Script, ReadScriptFaul
 
     // Which script or fault it is, unless memory runs out.
     ensures exact { IsAnswer result (script_of bytes.now) }
+
+    // Nothing is taken before the heap line: a fault up to it is told however little memory there is.
+    ensures memory { result ≡ Err OutOfMemory → IsTrue (has_heap_line (lines bytes.now)) }
 {
     script(alloc, bytes)
 }

@@ -82,6 +82,11 @@ fn empties_what_was_emptied_before(rt: HostRuntime) -> Result<(), Fail> {
     assert_eq!(rt; plan.chosen(), [1, 2].as_slice());
     let jobs = [job(1, 80, 16, 0, 8), job(524_293, 144, 25, 0, 30)];
     assert_eq!(rt; plan.jobs(), jobs.as_slice());
+    plan.fill_without_copies(&[row(0, 9), row(2, 0)]);
+    assert_eq!(rt; plan.chosen(), [2].as_slice());
+    assert!(rt; plan.jobs().is_empty() && plan.targets().is_empty());
+    plan.forget();
+    assert!(rt; plan.chosen().is_empty());
     Ok(())
 }
 

@@ -4,7 +4,7 @@ use Rattle.std.specs.Str.Lines.{lines}
 use Rattle.std.proofs.lemmas.Result.{err_from_is_err_and}
 use Rattle.heap_script.specs.Grammar.{script_of}
 use Rattle.heap_script.specs.declared.fault.FaultKind.TheVariants.{NoHeapLine}
-use Rattle.heap_script.proofs.Loops.{script_pass, script_fail, script_ends, script_commands, script_commands_fail, no_lines}
+use Rattle.heap_script.proofs.Loops.{script_pass, script_fail, script_ends, script_commands, script_commands_fail, no_lines, heap_line_later, heap_line_here}
 use Rattle.heap_script.proofs.reading.script.Goals as goal
 
 pub returns-in-Err-clause-exact : goal.returns-in-Err-clause-exact
@@ -26,8 +26,14 @@ loop-rest-preserved c =
     let said = rw c.in-Ok-None.field-0-is at c.in-Ok-None.ensures.exact in
     record {
       so_far = script_pass (1 + count_by (λ b. b == 10) c.args.bytes.now) c.loop-rest.number c.next_line.result.0.now (lines c.next_line.result.1.now) (lines c.loop-rest.rest.now) (script_of c.args.bytes.now) c.next_line.ensures.found said c.loop-rest.invariant.so_far;
+      heads = sym (heap_line_later c.next_line.result.0.now (lines c.next_line.result.1.now) (lines c.loop-rest.rest.now) c.next_line.ensures.found said) ∙ c.loop-rest.invariant.heads;
       fits = omega (arith, c.next_line.ensures.shorter, c.loop-rest.invariant.fits);
     }
 
 pub returns-clause-exact : goal.returns-clause-exact
 returns-clause-exact c = script_ends (1 + count_by (λ b. b == 10) c.args.bytes.now) c.loop-rest.number (lines c.loop-rest.rest.now) (script_of c.args.bytes.now) (no_lines c.loop-rest.rest.now c.is_empty.result c.is_empty.ensures c.loop-rest-test.false) c.loop-rest.invariant.so_far ∙ ap (λ n. Err (1 + n, NoHeapLine)) (sym c.line_ends.ensures)
+
+pub returns-in_err-lines-in-Ok-Some-clause-memory : goal.returns-in_err-lines-in-Ok-Some-clause-memory
+returns-in_err-lines-in-Ok-Some-clause-memory c = λ e.
+    let said = rw c.in-Ok-Some.field-0-is at c.in-Ok-Some.ensures.exact in
+    cc (c.loop-rest.invariant.heads, heap_line_here (c.in-Ok-Some.layout, c.in-Ok-Some.cycles) c.next_line.result.0.now (lines c.next_line.result.1.now) (lines c.loop-rest.rest.now) c.next_line.ensures.found said)
