@@ -4,6 +4,7 @@ pub mod RecordLaws
 pub mod beginnings
 pub mod calls
 pub mod collecting
+pub mod fixing
 pub mod frames
 pub mod opening
 pub mod parties

@@ -1,9 +1,10 @@
 -- The collector's machine, and what it has announced.
-use Rattle.std.specs.Prelude.{◌≡◌, ◌≤◌, ℕ, ◌+◌, ◌-◌, ◌==◌, ◌&&◌, ◌^◌, min, Bool, true, false, not, nat_lt, if◌then◌else◌, List, [], drop, Option, Some, None, refl}
+use Rattle.std.specs.Prelude.{◌≡◌, ◌≤◌, ℕ, ◌+◌, ◌-◌, ◌==◌, ◌&&◌, ◌^◌, min, max, Bool, true, false, not, nat_lt, if◌then◌else◌, List, [], drop, Option, Some, None, refl}
 use Rattle.std.specs.List.{slice_get, prefix_len}
 use Rattle.call_steps.specs.declared.step.Step.{Step}
 use Rattle.call_steps.specs.declared.step.Step.TheVariants.{Store, Exchange, Ended}
-use Rattle.heap_words.specs.Layouts.{Sizes, phase_at, mark_at as mark_at_word, ack_at, region_at}
+use Rattle.heap_words.specs.Layouts.{Sizes, phase_at, mark_at as mark_at_word, ack_at, root_at, region_at}
+use Rattle.heap_words.specs.declared.limits.TheConstants.{REGISTERS}
 use Rattle.object_headers.specs.declared.change.Kind.{Kind}
 use Rattle.object_headers.specs.Changes.{is_clover}
 use Rattle.handshakes.specs.declared.phase_word.Phase.{Phase}
@@ -25,6 +26,11 @@ use Rattle.mark_search.specs.declared.seek.SeekMarkMachine.{SeekMarkMachine}
 use Rattle.mark_search.specs.Draws.{candidates_of, last_of, drawn_on}
 use Rattle.mark_search.specs.declared.candidates.Candidates.{Candidates}
 use Rattle.mark_search.specs.Seeks as seeks
+use Rattle.reference_fix.specs.declared.root_fix.RootFixMachine.{RootFixMachine}
+use Rattle.reference_fix.specs.declared.root_fix.RootFixMachine.TheVariants as root
+use Rattle.reference_fix.specs.declared.fix_walk.FixWalkMachine.{FixWalkMachine}
+use Rattle.reference_fix.specs.RootFixes as roots
+use Rattle.reference_fix.specs.FixWalks as walks
 use Rattle.barriers.specs.declared.ends.MoveEnd.{MoveEnd}
 use Rattle.barriers.specs.Kits.{Kit}
 use Rattle.barriers.specs.Rows.{region_of}
@@ -140,6 +146,10 @@ target_of l job = region_of l job.to
 abbrev pub run_of : Sizes → List MoveJob → ℕ → ℕ → ℕ
 run_of l jobs from region = prefix_len (λ j. target_of l j == region) (drop from jobs)
 
+-- the pass with this number, or the one next to it that the layout has
+abbrev pub pass_within : Sizes → ℕ → ℕ
+pass_within l pass = min (max pass 1) l.passes
+
 -- ---- the machine
 
 -- no cycle has begun, which is as if Free of cycle 0 had been announced and awaited
@@ -173,6 +183,22 @@ module _ {M : Type 0} where
   abbrev pub sought_on : Stage → SeekMarkMachine → CollectorMachine M
   sought_on s m = sought s m (seeks.end_of m)
 
+  -- the fixing of a retired pass's root word for a register
+  abbrev pub root_fix : Stage → ℕ → ℕ → CollectorMachine M
+  root_fix s pass reg = collector.Roots s pass reg (root.Root (root_at s.layout (pass_within s.layout pass) reg))
+
+  -- all passes have answered Fix
+  abbrev pub walk_at : Stage → CollectorMachine M
+  walk_at s = collector.Walk s (walks.begun s.layout)
+
+  -- after a step of the walk, which has ended or not
+  abbrev pub walked : Stage → FixWalkMachine → Option (Unit {0}) → CollectorMachine M
+  walked s m None = collector.Walk s m
+  walked s m (Some end) = announce s Free
+
+  abbrev pub walked_on : Stage → FixWalkMachine → CollectorMachine M
+  walked_on s m = walked s m (walks.end_of m)
+
   -- the step that it takes next, where its mover asks so
   abbrev pub asks_of : (M → Step) → CollectorMachine M → Step
   asks_of asks (collector.Announce s) = Store phase_at (word_of s)
@@ -183,6 +209,8 @@ module _ {M : Type 0} where
   asks_of asks (collector.Target s region next) = Store (used_at s.layout region) (word_of_region regions.Target)
   asks_of asks (collector.Tag s job next) = Exchange job.from job.header (tagged_word job.header)
   asks_of asks (collector.Move s job next m) = asks m
+  asks_of asks (collector.Roots s pass reg m) = roots.asks_of m
+  asks_of asks (collector.Walk s m) = walks.asks_of m
   asks_of asks (collector.Done s) = Ended
 
   -- the object that this step seals, where it finds this word
@@ -236,7 +264,7 @@ module _ {R W E M : Type 0} (kit : Kit R W E M) where
   behind_by plan Confirm s = to_copy plan s
   behind_by plan Search s = seek_at s
   behind_by plan Copy s = to_fix plan s
-  behind_by plan Fix s = announce s Free
+  behind_by plan Fix s = walk_at s
   behind_by plan Free s =
       if nat_lt s.cycle s.cycles
       then collector.Announce (record s { cycle = s.cycle + 1; announcement = Mark })
@@ -246,10 +274,23 @@ module _ {R W E M : Type 0} (kit : Kit R W E M) where
   abbrev pub awaited : Planned → Stage → ℕ → CollectorMachine M
   awaited plan s pass = if nat_lt pass s.layout.passes then look s (pass + 1) else behind_by plan s.announcement s
 
+  -- this pass has retired: in the await of Fix its root words are fixed
+  abbrev pub retired_by : Planned → Announcement → Stage → ℕ → CollectorMachine M
+  retired_by plan Fix s pass = root_fix s pass 0
+  retired_by plan a s pass = awaited plan s pass
+
+  -- after a step of the fixing of a root word, which has ended or not
+  abbrev pub rooted : Planned → Stage → ℕ → ℕ → RootFixMachine → Option (Unit {0}) → CollectorMachine M
+  rooted plan s pass reg m None = collector.Roots s pass reg m
+  rooted plan s pass reg m (Some end) = if nat_lt reg (REGISTERS - 1) then root_fix s pass (reg + 1) else awaited plan s pass
+
+  abbrev pub rooted_on : Planned → Stage → ℕ → ℕ → RootFixMachine → CollectorMachine M
+  rooted_on plan s pass reg m = rooted plan s pass reg m (roots.end_of m)
+
   -- a look has ended: the pass has answered or retired, or it is looked at again
   abbrev pub looked : Planned → Stage → ℕ → AwaitMachine → Option AwaitEnd → CollectorMachine M
   looked plan s pass m (Some Answered) = awaited plan s pass
-  looked plan s pass m (Some Retired) = awaited plan s pass
+  looked plan s pass m (Some Retired) = retired_by plan s.announcement s pass
   looked plan s pass m (Some (NotYet at found)) = collector.Await s pass m
   looked plan s pass m None = collector.Await s pass m
 
@@ -271,6 +312,8 @@ module _ {R W E M : Type 0} (kit : Kit R W E M) where
   fed_of fed plan (collector.Target s region next) found = target_at plan (slice_get plan.jobs next) s next
   fed_of fed plan (collector.Tag s job next) found = tag_at (slice_get plan.jobs next) s next
   fed_of fed plan (collector.Move s job next m) found = moved_on plan s job next (fed m found)
+  fed_of fed plan (collector.Roots s pass reg m) found = rooted_on plan s pass reg (roots.fed_of m found)
+  fed_of fed plan (collector.Walk s m) found = walked_on s (walks.fed_of m found)
   fed_of fed plan (collector.Done s) found = collector.Done s
 
   -- what the move has ended with, if it ends by the step that finds this word
@@ -296,6 +339,8 @@ module _ {R W E M : Type 0} (kit : Kit R W E M) where
   blind_of asks fed blind plan (collector.Target s region next) at put n is = refl
   blind_of asks fed blind plan (collector.Tag s job next) at put n is = refl
   blind_of asks fed blind plan (collector.Move s job next m) at put n is = rw (blind m at put n is) refl
+  blind_of asks fed blind plan (collector.Roots s pass reg m) at put n is = rw (roots.blind_of m at put n is) refl
+  blind_of asks fed blind plan (collector.Walk s m) at put n is = rw (walks.blind_of m at put n is) refl
   blind_of asks fed blind plan (collector.Done s) at put n is = refl
 
 -- what is made of the same is the same
@@ -315,6 +360,8 @@ module _ {M : Type 0} where
   stage_of (collector.Target s region next) = stage_before s
   stage_of (collector.Tag s job next) = stage_before s
   stage_of (collector.Move s job next m) = stage_before s
+  stage_of (collector.Roots s pass reg m) = s
+  stage_of (collector.Walk s m) = s
   stage_of (collector.Done s) = s
 
   -- the phase word now announced
@@ -335,9 +382,11 @@ module _ {M : Type 0} where
   drawn_of (collector.Target s region next) = mark_word s
   drawn_of (collector.Tag s job next) = mark_word s
   drawn_of (collector.Move s job next m) = mark_word s
+  drawn_of (collector.Roots s pass reg m) = mark_word s
+  drawn_of (collector.Walk s m) = mark_word s
   drawn_of (collector.Done s) = mark_word s
 
-  -- how many passes the await has passed, in rising number: all of them outside an await
+  -- how many passes the await has passed, in rising number: all of them outside an await, to which the fixing of root words belongs
   abbrev pub passed_of : CollectorMachine M → ℕ
   passed_of (collector.Announce s) = s.layout.passes
   passed_of (collector.Await s pass m) = pass - 1
@@ -347,6 +396,8 @@ module _ {M : Type 0} where
   passed_of (collector.Target s region next) = s.layout.passes
   passed_of (collector.Tag s job next) = s.layout.passes
   passed_of (collector.Move s job next m) = s.layout.passes
+  passed_of (collector.Roots s pass reg m) = pass - 1
+  passed_of (collector.Walk s m) = s.layout.passes
   passed_of (collector.Done s) = s.layout.passes
 
 -- ---- how many changes there were when its awaits ended
@@ -372,12 +423,14 @@ begun_by _ h = h
 module _ {M : Type 0} where
   abbrev pub is_await : CollectorMachine M → Bool
   is_await (collector.Await s pass m) = true
+  is_await (collector.Roots s pass reg m) = true
   is_await _ = false
 
   -- after a step of the collector from one machine to another, where there were so many changes
   abbrev pub awaits_behind : CollectorMachine M → CollectorMachine M → ℕ → Awaited → Awaited
   awaits_behind (collector.Announce s) after changes h = begun_by s.announcement h
   awaits_behind (collector.Await s pass m) after changes h = if is_await after then h else with_await s.announcement changes h
+  awaits_behind (collector.Roots s pass reg m) after changes h = if is_await after then h else with_await s.announcement changes h
   awaits_behind k after changes h = h
 
 -- each of them is no more than there are

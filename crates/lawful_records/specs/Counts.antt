@@ -28,6 +28,8 @@ HasCounted left (collector.Source s region next) n = n ≡ 0
 HasCounted left (collector.Target s region next) n = n ≡ 0
 HasCounted left (collector.Tag s job next) n = n ≡ 0
 HasCounted left (collector.Move s job next m) n = n + left ≤ next
+HasCounted left (collector.Roots s pass reg m) n = CountsAt (is_planned s) s.announcement n
+HasCounted left (collector.Walk s m) n = CountsAt (is_planned s) Fix n
 HasCounted left (collector.Done s) n = Unit {0}
 
 -- ---- seals

@@ -65,6 +65,8 @@ module _ {M : Type 0} where
   told_by (collector.Target s region next) = told_until s
   told_by (collector.Tag s job next) = told_until s
   told_by (collector.Move s job next m) = told_until s
+  told_by (collector.Roots s pass reg m) = told_awaiting s.announcement (is_refused s)
+  told_by (collector.Walk s m) = Everybody
   told_by (collector.Done s) = Nobody
 
   abbrev pub clear_by : CollectorMachine M → Bool
@@ -76,6 +78,8 @@ module _ {M : Type 0} where
   clear_by (collector.Target s region next) = clear_until s
   clear_by (collector.Tag s job next) = clear_until s
   clear_by (collector.Move s job next m) = clear_until s
+  clear_by (collector.Roots s pass reg m) = clear_awaiting s.announcement s.marks.clear
+  clear_by (collector.Walk s m) = s.marks.clear
   clear_by (collector.Done s) = false
 
   -- The cycle as copiers see it. Nothing that has moved is given up yet, so its words may be read at all times.

@@ -1,6 +1,8 @@
 -- What the turn of one party leaves of what the others stand on.
-use Rattle.std.specs.Prelude.{◌≡◌, ◌≢◌, ℕ, ◌<◌, ◌≤◌, ◌⊎◌, IsTrue, true, false, List, ◌∷◌, Some, None}
+use Rattle.std.specs.Prelude.{◌≡◌, ◌≢◌, ℕ, ◌<◌, ◌≤◌, ◌⊎◌, IsTrue, true, false, List, ◌∷◌, Option, Some, None}
 use Rattle.heap_words.specs.Layouts.{Sizes, IsPass}
+use Rattle.heap_words.specs.declared.field_word.FieldWord.{FieldWord}
+use Rattle.heap_words.specs.declared.field_word.FieldWord.TheVariants.{Num}
 use Rattle.object_headers.specs.declared.change.Kind.{Kind}
 use Rattle.object_headers.specs.Changes.{is_clover}
 use Rattle.space_reclaim.specs.OwnRegions.{IsOwn}
@@ -14,7 +16,7 @@ use Rattle.barriers.specs.Stances.{Free, Retired}
 use Rattle.barriers.specs.Rows.{region_of}
 use Rattle.barriers.specs.Says.{Notices}
 use Rattle.barriers.specs.Cycles.{Cycle, Side}
-use Rattle.barriers.specs.Knowns.{Known}
+use Rattle.barriers.specs.Knowns.{Known, writes_yet}
 use Rattle.barriers.specs.Events.{Keep}
 use Rattle.barriers.specs.Protocols.{Protocol}
 use Rattle.space_reclaim.specs.declared.move_job.MoveJob.{MoveJob}
@@ -52,6 +54,15 @@ pub record SeenBy (P : Protocol) (c : Cycle) (s t : Space) : Type 0 where
 abbrev pub KeepsUnmarked : Kind → Cycle → Side → Space → Space → Type 0
 KeepsUnmarked kind c side s t = is_clover kind ≡ true → c.phase ≢ Free → (side.acked ≢ Retired → side.own ≡ c.mark) → (a f : ℕ) → IsHome (t.state a) → f < t.len a
     → (IsHome (s.state a) × (f < s.len a) × (t.field a f ≡ s.field a f)) ⊎ (is_mark c.mark (t.field a f) ≡ false)
+
+-- the word that a call will yet write, where a pass is in one
+abbrev pub writes_in : Option Known → Option FieldWord
+writes_in None = None
+writes_in (Some k) = writes_yet k
+
+-- The turn of a pass leaves the word of each field of a home, or makes it 0, or the word that its call will yet write.
+abbrev pub KeepsFields : Option FieldWord → Space → Space → Type 0
+KeepsFields put s t = (a f : ℕ) → IsHome (t.state a) → f < t.len a → (IsHome (s.state a) × (f < s.len a) × (t.field a f ≡ s.field a f)) ⊎ ((t.field a f ≡ Num 0) ⊎ (put ≡ Some (t.field a f)))
 
 -- what it leaves to a search: where objects begin, and fields that are not the mark
 pub record LeavesSearch (kind : Kind) (c : Cycle) (side : Side) (s t : Space) : Type 0 where

@@ -1,12 +1,19 @@
 -- A collector that plays its cycles over a layout.
-use Rattle.std.specs.Prelude.{◌≡◌, ℕ, ◌+◌, ◌-◌, ◌*◌, ◌≤◌, Bool, true, false, if◌then◌else◌, List, length, Some}
+use Rattle.std.specs.Prelude.{◌≡◌, ◌≢◌, ℕ, ◌+◌, ◌-◌, ◌*◌, ◌<◌, ◌≤◌, Bool, true, false, if◌then◌else◌, List, length, Some}
 use Rattle.std.specs.List.{slice_get}
-use Rattle.heap_words.specs.Layouts.{Sizes, IsPass, ack_at}
+use Rattle.call_steps.specs.declared.step.Step.TheVariants.{Ended}
+use Rattle.heap_words.specs.Layouts.{Sizes, IsPass, ack_at, root_at}
+use Rattle.heap_words.specs.declared.limits.TheConstants.{REGISTERS}
 use Rattle.object_headers.specs.declared.change.Kind.{Kind}
 use Rattle.object_headers.specs.Changes.{is_clover}
 use Rattle.handshakes.specs.declared.answer.AwaitMachine.{AwaitMachine}
 use Rattle.handshakes.specs.declared.answer.AwaitMachine.TheVariants as await
 use Rattle.mark_search.specs.declared.seek.SeekMarkMachine.{SeekMarkMachine}
+use Rattle.reference_fix.specs.declared.root_fix.RootFixMachine.{RootFixMachine}
+use Rattle.reference_fix.specs.declared.fix_walk.FixWalkMachine.{FixWalkMachine}
+use Rattle.reference_fix.specs.RootFixes.{IsRootFixOf}
+use Rattle.reference_fix.specs.FixWalks.{area_of, asks_of}
+use Rattle.reference_fix.specs.FixWalkRuns.{Walks}
 use Rattle.space_reclaim.specs.declared.move_job.MoveJob.{MoveJob}
 use Rattle.space_reclaim.specs.Plans.{Planned}
 use Rattle.lawful_records.specs.declared.stage.Announcement.{Announcement}
@@ -96,6 +103,21 @@ pub record IsWork (l : Sizes) (kind : Kind) (cycles : ℕ) (next : Announcement)
   pub planned : is_planned s ≡ true
   pub clear : is_clover kind ≡ true → s.marks.clear ≡ true
 
+-- the root words of a pass are fixed in the await of Fix, in the order of the registers
+pub record IsRooting (l : Sizes) (kind : Kind) (cycles : ℕ) (s : Stage) (pass reg : ℕ) (m : RootFixMachine) : Type 0 where
+  pub stage : IsStage l kind cycles s
+  pub fix : s.announcement ≡ Fix
+  pub in_layout : IsPass l pass
+  pub small : reg < REGISTERS
+  pub fixes : IsRootFixOf (root_at l pass reg) m
+
+-- the walk through the regions after that await, which has not ended
+pub record IsWalk (l : Sizes) (kind : Kind) (cycles : ℕ) (s : Stage) (m : FixWalkMachine) : Type 0 where
+  pub stage : IsStage l kind cycles s
+  pub fix : s.announcement ≡ Fix
+  pub walks : Walks (area_of l) m
+  pub on : asks_of m ≢ Ended
+
 -- one of a list
 abbrev pub IsIn : {X : Type 0} → List X → X → Type 0
 IsIn xs x = (i : ℕ) × (slice_get xs i ≡ Some x)
@@ -114,4 +136,6 @@ IsCollector l kind cycles plan (collector.Source s region next) = IsWork l kind 
 IsCollector l kind cycles plan (collector.Target s region next) = IsWork l kind cycles (work_before kind) s × IsTargetOf s.layout plan.jobs region
 IsCollector l kind cycles plan (collector.Tag s job next) = IsWork l kind cycles Copy s × (is_clover kind ≡ false) × IsIn plan.jobs job
 IsCollector l kind cycles plan (collector.Move s job next m) = IsWork l kind cycles Fix s × IsIn plan.jobs job × (next ≤ length plan.jobs)
+IsCollector l kind cycles plan (collector.Roots s pass reg m) = IsRooting l kind cycles s pass reg m
+IsCollector l kind cycles plan (collector.Walk s m) = IsWalk l kind cycles s m
 IsCollector l kind cycles plan (collector.Done s) = IsLast l kind cycles s

@@ -136,6 +136,8 @@ module _ {M : Type 0} where
   stand_of plan (collector.Target s region next) = Targeting region next plan.jobs
   stand_of plan (collector.Tag s job next) = Tagging job (take next plan.jobs) (drop next plan.jobs) plan.jobs
   stand_of plan (collector.Move s job next m) = Moved_by job (drop next plan.jobs) m
+  stand_of plan (collector.Roots s pass reg m) = Settled
+  stand_of plan (collector.Walk s m) = Settled
   stand_of plan (collector.Done s) = Settled
 
   -- the object at this address is on its way by a mark only while it is moved

@@ -35,6 +35,7 @@ use Rattle.lawful_records.specs.Handshakes.{IsCollector}
 use Rattle.lawful_records.specs.Collectors.{drawn_of, AreEarlier}
 use Rattle.lawful_records.specs.Cycling.{announced_by, cycle_of}
 use Rattle.lawful_records.specs.Counts.{HasCounted, unsealed_in}
+use Rattle.lawful_records.specs.Fixing.{AreFixed}
 use Rattle.lawful_records.specs.JobStands.{IsPlan, stand_of, IsMovedBy, StandsAt}
 use Rattle.lawful_records.specs.Searches.{SearchStands}
 use Rattle.lawful_records.specs.Making.{IsRoom, IsMaking, has_room, lens_of}
@@ -67,6 +68,10 @@ AreSame before now = (length now ≡ length before) × ((i : ℕ) → value_of (
 abbrev pub AreStored : Notices → ℕ → List FieldWord → ℕ → Type 0
 AreStored n pass registers count = (i : ℕ) → i < count → n.root pass i ≡ held_in registers i
 
+-- the root words of a pass that has retired are of the values of its registers, and hold; the collector may have fixed them
+abbrev pub AreRooted : Space → Notices → ℕ → List FieldWord → Type 0
+AreRooted s n pass registers = (i : ℕ) → i < 8 → IsMoved s (held_in registers i) (n.root pass i)
+
 -- ---- what each machine of a pass stands on
 
 abbrev pub IsWriting : Task → Type 0
@@ -82,8 +87,9 @@ abbrev pub IsPollIn : Space → Polled → PollMachine → Type 0
 IsPollIn s x (poll.Ended end) = (let view = end.view in view.pass ≡ (let own = x.view in own.pass)) × AreSame x.registers end.registers
 IsPollIn s x m = IsPolling (IsMoved s) x m
 
-abbrev pub IsRetireIn : Sizes → Notices → ℕ → List FieldWord → Option ℕ → RetireMachine → Type 0
-IsRetireIn l n pass registers region m =
+abbrev pub IsRetireIn : Sizes → Space → Notices → ℕ → List FieldWord → Option ℕ → RetireMachine → Type 0
+IsRetireIn l s n pass registers region retire.Ended = AreRooted s n pass registers
+IsRetireIn l s n pass registers region m =
     IsRetiring l (record { pass = pass; registers = registers; region = region }) m × AreStored n pass registers (stored_by m)
 
 -- how many changes the last of some ended calls had seen
@@ -112,13 +118,13 @@ module _ {R W E M : Type 0} (kit : Kit R W E M) where
 
   abbrev pub IsMachine : Sizes → Cycle → Space → Notices → PassKnown R W E → PassMachine R W E → Type 0
   IsMachine l c s n p machine.Idle = Unit {0}
-  IsMachine l c s n p machine.Retired = AreStored n (number_of p) p.pass.registers 8
+  IsMachine l c s n p machine.Retired = AreRooted s n (number_of p) p.pass.registers
   IsMachine l c s n p (machine.Poll m) = IsPollIn s (record { view = p.pass.view; registers = p.pass.registers; announced = n.phase; mark = n.mark }) m
   IsMachine l c s n p (machine.New m) = IsMaking l s (number_of p) p.pass.room p.pass.made (lens_of p.mine) m
   IsMachine l c s n p (machine.Read m) = IsCall kit.protocol c s (side_of kit p) (kit.reads m) × kit.ReadsFor p.pass.view m × (task_of (kit.reads m) ≡ Reads)
   IsMachine l c s n p (machine.Write m) = IsCall kit.protocol c s (side_of kit p) (kit.writes m) × kit.WritesFor p.pass.view m × IsWriting (task_of (kit.writes m))
   IsMachine l c s n p (machine.Exchange m) = IsCall kit.protocol c s (side_of kit p) (kit.exchanges m) × kit.ExchangesFor p.pass.view m × IsExchanging (task_of (kit.exchanges m))
-  IsMachine l c s n p (machine.Retire m) = IsRetireIn l n (number_of p) p.pass.registers (let room = p.pass.room in room.region) m
+  IsMachine l c s n p (machine.Retire m) = IsRetireIn l s n (number_of p) p.pass.registers (let room = p.pass.room in room.region) m
 
   -- ---- a pass
 
@@ -201,7 +207,8 @@ module _ {R W E M : Type 0} (kit : Kit R W E M) where
 
   -- The words say the space, what is announced and acknowledged, and the mark, and those of the wide area that are of no wide object are 0; the
   -- objects of each region follow each other, and where none begins there is no wide object of one; the objects are as the copier and the
-  -- history have them, and only the one that is moved is on its way by a mark; and each party stands where it is.
+  -- history have them, and only the one that is moved is on its way by a mark; each party stands where it is; and links lead to homes, where they
+  -- are fixed.
   pub record LawfulRecords (l : Sizes) (words : List ℕ) (rs : List (Party R W E M)) : Type 0 where
     pub layout : IsLayout l
     pub width : length words ≡ words_of l
@@ -220,3 +227,4 @@ module _ {R W E M : Type 0} (kit : Kit R W E M) where
     pub resting : (a : ℕ) → IsMoving (space.state a) → IsMovedBy collector a
     pub history : IsHistoryOf l space.history rs
     pub each : All (IsParty l collector space notices) rs
+    pub fixed : AreFixed kit collector space notices rs

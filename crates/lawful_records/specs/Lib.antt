@@ -16,3 +16,4 @@ pub mod Records
 pub mod Running
 pub mod Searches
 pub mod Turns
+pub mod Fixing

@@ -19,7 +19,7 @@ use Rattle.barriers.specs.Cycles.{Cycle, Side, Handshaken}
 use Rattle.barriers.specs.Objects.{AreObjects, HasLens}
 use Rattle.barriers.specs.Knowns.{Known, spot_of}
 use Rattle.barriers.specs.Kits.{Kit, Stepping, IsFromSearch, own_of, cycle_at}
-use Rattle.lawful_records.specs.Frames.{Leaves, LeavesSearch, Beside}
+use Rattle.lawful_records.specs.Frames.{writes_in, KeepsFields, Leaves, LeavesSearch, Beside}
 use Rattle.lawful_records.specs.LawfulRecords.{IsPassRecord}
 use Rattle.lawful_records.specs.Meetings.{FitsHand}
 use Rattle.lawful_records.specs.Records.{number_of, side_of, known_of}
@@ -95,6 +95,7 @@ module _ {R W E M : Type 0} (kit : Kit R W E M) (by : Stepping R W E M) where
     pub beside : Beside kit l c (number_of p) s t n o
     pub leaves : Leaves kit.protocol l c s t
     pub search : LeavesSearch kit.kind c (side_of kit p) s t
+    pub fields : KeepsFields (writes_in (known_of kit p.pass.machine)) s t
     pub history : t.history ≡ with_change (change_in p words) s.history
     pub number : number_of (pass_after s p words) ≡ number_of p
     pub looks : LooksOn (front_by kit by p.pass.machine (found_by p words)) (seal_for s p.pass.machine) s.history p.seen

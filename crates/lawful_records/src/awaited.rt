@@ -57,7 +57,7 @@ impl Awaited {
     }
 
     /// After a step of the collector from one machine to another, where there were so many changes: an announcement
-    /// of Mark begins a cycle, and an await may have ended.
+    /// of Mark begins a cycle, and an await may have ended. The await of Fix goes on while root words are fixed.
     pub fn behind<M>(
         self,
         before: &CollectorMachine<M>,
@@ -71,8 +71,11 @@ impl Awaited {
                 Announcement::Mark => Awaited::NONE,
                 _ => self,
             },
-            (CollectorMachine::Await { .. }, CollectorMachine::Await { .. }) => self,
-            (CollectorMachine::Await { stage, .. }, _) => {
+            (
+                CollectorMachine::Await { .. } | CollectorMachine::Roots { .. },
+                CollectorMachine::Await { .. } | CollectorMachine::Roots { .. },
+            ) => self,
+            (CollectorMachine::Await { stage, .. } | CollectorMachine::Roots { stage, .. }, _) => {
                 self.with_await(stage.announcement, changes)
             }
             _ => self,

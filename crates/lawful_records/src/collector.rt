@@ -5,10 +5,11 @@
 ghost use Rattle.std.specs.Prelude.{◌≡◌, ◌≢◌, ◌≤◌, ◌<◌};
 ghost use Rattle.call_steps.specs.declared.step.Step.TheVariants.{Store, Ended as StepEnded};
 ghost use Rattle.heap_words.specs.Layouts.{IsPass};
+ghost use Rattle.heap_words.specs.declared.limits.TheConstants.{REGISTERS};
 ghost use Rattle.space_reclaim.specs.RegionWords.{IsRegionWord, word_of_region};
 ghost use Rattle.std.specs.Prelude.{length, ◌==◌};
 ghost use Rattle.std.specs.List.{slice_get, prefix_len};
-ghost use Rattle.lawful_records.specs.Collectors.{is_planned as is_planned_at, used_at, target_of as target_in, look as look_at, seek_at, sought_on, to_copy as to_copy_by, tag_at, move_at, moves_at, targeted as targeted_by, target_at, source_at, work_at, to_fix as to_fix_by, behind_by, awaited as awaited_by, looked as looked_by, moved_on as moved_on_by, asks_of as asks_by, fed_of as fed_by, seals_of, move_ended as move_ended_by, seek_ended, collector_of};
+ghost use Rattle.lawful_records.specs.Collectors.{is_planned as is_planned_at, used_at, target_of as target_in, look as look_at, walk_at, seek_at, sought_on, to_copy as to_copy_by, tag_at, move_at, moves_at, targeted as targeted_by, target_at, source_at, work_at, to_fix as to_fix_by, behind_by, awaited as awaited_by, looked as looked_by, moved_on as moved_on_by, root_fix as root_fix_of, retired_by as retired_as, rooted_on as rooted_by, walked_on as walked_by, asks_of as asks_by, fed_of as fed_by, seals_of, move_ended as move_ended_by, seek_ended, collector_of};
 ghost use Rattle.barriers.specs.Rows.{region_of as region_in};
 
 use crate::job::{does_seal, tagged_word};
@@ -16,8 +17,9 @@ use crate::stage::{Announcement, Marks, SEARCHES, Stage, seeks_mark};
 use barriers::{Copier, MoveEnd};
 use call_steps::{Machine, Step};
 use handshakes::{AwaitEnd, AwaitMachine};
-use heap_words::{Layout, REGION_WORDS};
+use heap_words::{Layout, REGION_WORDS, REGISTERS};
 use mark_search::{Candidates, SeekEnd, SeekMarkMachine};
+use reference_fix::{FixWalkMachine, RootFixMachine};
 use space_reclaim::{MoveJob, Plan, RegionWord};
 
 /// Stores the phase word of each announcement, and after each loads the acknowledgement of one pass after another,
@@ -27,7 +29,9 @@ use space_reclaim::{MoveJob, Plan, RegionWord};
 /// which there are eight at most. Then it works on the plan of the cycle. It stores Source in the words of the regions
 /// that are emptied and Target in those of the regions to which objects are copied, each in rising number. Where objects
 /// are tagged it tags those of the jobs, in the order of the plan, all before it announces Copy. Before it announces Fix
-/// it moves them, in the same order. Neither an await nor a move has a bound.
+/// it moves them, in the same order. Where it finds in the await of Fix that a pass has retired, it fixes the pass's root
+/// words; and after that await, before it announces Free, it fixes the fields of all objects. Neither an await nor a move
+/// has a bound.
 #[derive(Clone, Copy, Debug, PartialEq, Eq)]
 pub enum CollectorMachine<M> {
     /// Announces this stage.
@@ -70,6 +74,19 @@ pub enum CollectorMachine<M> {
         job: MoveJob,
         next: usize,
         machine: M,
+    },
+    /// Has found that a pass has retired, in the await of Fix: fixes its root word for a register by this machine,
+    /// after those of the registers before.
+    Roots {
+        stage: Stage,
+        pass: u32,
+        reg: u32,
+        machine: RootFixMachine,
+    },
+    /// Has awaited Fix, and fixes the fields of all objects.
+    Walk {
+        stage: Stage,
+        machine: FixWalkMachine,
     },
     /// All passes have answered the last stage.
     Done(Stage),
@@ -285,6 +302,29 @@ impl Stage {
         }
     }
 
+    /// The walk that fixes all fields.
+    fn walk<M>(&self) -> CollectorMachine<M>
+        ensures { result ≡ walk_at self.now }
+    {
+        CollectorMachine::Walk {
+            stage: *self,
+            machine: FixWalkMachine::new(&self.layout),
+        }
+    }
+
+    /// What comes after a step of the walk: the next one, or the announcement of Free when it has ended.
+    fn walked<M>(&self, machine: FixWalkMachine) -> CollectorMachine<M>
+        ensures { result ≡ walked_by self.now machine }
+    {
+        match machine.end() {
+            Some(()) => CollectorMachine::Announce(self.at(Announcement::Free)),
+            None => CollectorMachine::Walk {
+                stage: *self,
+                machine,
+            },
+        }
+    }
+
     /// What comes when all passes have answered.
     fn behind<P: Copier>(&self, plan: &Plan) -> CollectorMachine<P::Move>
         ensures { result ≡ behind_by P.kit plan.now self.now.announcement self.now }
@@ -294,7 +334,7 @@ impl Stage {
             Announcement::Confirm => self.to_copy::<P>(plan),
             Announcement::Search => self.to_seek(),
             Announcement::Copy => self.to_fix::<P>(plan),
-            Announcement::Fix => CollectorMachine::Announce(self.at(Announcement::Free)),
+            Announcement::Fix => self.walk(),
             Announcement::Free if self.cycle < self.cycles => {
                 CollectorMachine::Announce(Stage {
                     cycle: self.cycle + 1,
@@ -316,6 +356,54 @@ impl Stage {
         self.behind::<P>(plan)
     }
 
+    /// The fixing of a retired pass's root word for a register. Each pass that is awaited is one of the layout.
+    fn root_fix<M>(&self, pass: u32, reg: u32) -> CollectorMachine<M>
+        requires { reg < REGISTERS }
+        ensures { result ≡ root_fix_of self.now pass reg }
+    {
+        prove!(self.layout.passes() >= 1);
+        let within = pass.max(1).min(self.layout.passes());
+        CollectorMachine::Roots {
+            stage: *self,
+            pass,
+            reg,
+            machine: RootFixMachine::new(&self.layout, within, reg),
+        }
+    }
+
+    /// What comes when it is found that a pass has retired: in the await of Fix the fixing of its root words.
+    fn retired<P: Copier>(&self, plan: &Plan, pass: u32) -> CollectorMachine<P::Move>
+        ensures { result ≡ retired_as P.kit plan.now self.now.announcement self.now pass }
+    {
+        match self.announcement {
+            Announcement::Fix => self.root_fix(pass, 0),
+            _ => self.awaited::<P>(plan, pass),
+        }
+    }
+
+    /// What comes after a step of the fixing of a root word: the next one, the next root word, or, after the last one
+    /// of the pass, the next pass.
+    fn rooted<P: Copier>(
+        &self,
+        plan: &Plan,
+        pass: u32,
+        reg: u32,
+        machine: RootFixMachine,
+    ) -> CollectorMachine<P::Move>
+        ensures { result ≡ rooted_by P.kit plan.now self.now pass reg machine }
+    {
+        match machine.end() {
+            None => CollectorMachine::Roots {
+                stage: *self,
+                pass,
+                reg,
+                machine,
+            },
+            Some(()) if reg < REGISTERS as u32 - 1 => self.root_fix(pass, reg + 1),
+            Some(()) => self.awaited::<P>(plan, pass),
+        }
+    }
+
     /// What comes when a look at this pass has ended. Without an answer the next look is the same one.
     fn looked<P: Copier>(
         &self,
@@ -327,7 +415,8 @@ impl Stage {
         ensures { result ≡ looked_by P.kit plan.now self.now pass look end }
     {
         match end {
-            Some(AwaitEnd::Answered) | Some(AwaitEnd::Retired) => self.awaited::<P>(plan, pass),
+            Some(AwaitEnd::Answered) => self.awaited::<P>(plan, pass),
+            Some(AwaitEnd::Retired) => self.retired::<P>(plan, pass),
             Some(AwaitEnd::NotYet { .. }) | None => CollectorMachine::Await {
                 stage: *self,
                 pass,
@@ -414,6 +503,8 @@ impl<M: Machine> CollectorMachine<M> {
                 put: tagged_word(job.header),
             },
             CollectorMachine::Move { machine, .. } => machine.ask(),
+            CollectorMachine::Roots { machine, .. } => machine.ask(),
+            CollectorMachine::Walk { machine, .. } => machine.ask(),
             CollectorMachine::Done(_) => Step::Ended,
         }
     }
@@ -465,6 +556,21 @@ where
             let mut fed = machine;
             fed.feed(found);
             stage.moved::<P>(plan, job, next, fed)
+        }
+        CollectorMachine::Roots {
+            stage,
+            pass,
+            reg,
+            machine,
+        } => {
+            let mut fed = machine;
+            fed.feed(found);
+            stage.rooted::<P>(plan, pass, reg, fed)
+        }
+        CollectorMachine::Walk { stage, machine } => {
+            let mut fed = machine;
+            fed.feed(found);
+            stage.walked(fed)
         }
         CollectorMachine::Done(stage) => CollectorMachine::Done(stage),
     };

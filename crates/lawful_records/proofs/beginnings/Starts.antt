@@ -11,6 +11,8 @@ use Rattle.barriers.specs.declared.pass.PassMachine.TheVariants as machine
 use Rattle.barriers.specs.Kits.{Kit, Stepping, Laws}
 use Rattle.barriers.specs.Records.{machine_for}
 use Rattle.lawful_records.specs.Beginnings.{TakesIn, Puts, Starts, Begins, BeginsOn}
+use Rattle.lawful_records.specs.Fixing.{IsFixedPass, IsFixedParty}
+use Rattle.lawful_records.proofs.fixing.BeginFixes.{taken_fixed, put_fixed, begun_fixed}
 use Rattle.lawful_records.specs.Cycling.{announced_by, cycle_of}
 use Rattle.lawful_records.specs.LawfulRecords.{IsPassRecord, IsParty, LawfulRecords}
 use Rattle.lawful_records.specs.PassTurns.{in_machine}
@@ -36,11 +38,15 @@ module _ {R W E M : Type 0} (kit : Kit R W E M) (by : Stepping R W E M) (laws : 
   own : IsPassRecord kit l (announced_by w.collector) (cycle_of w.collector) w.space w.notices p
   own = All-head (IsParty kit l w.collector w.space w.notices) (party.Pass p) others w.each
 
+  fixed : IsFixedPass kit w.collector w.space w.notices p
+  fixed = All-head (IsFixedParty kit w.collector w.space w.notices) (party.Pass p) others w.fixed.each
+
   takes_in : (q : PassKnown R W E) → TakesIn kit p q → PassBegun kit l w.collector w.space w.notices p q
   takes_in q takes = subst (PassBegun kit l w.collector w.space w.notices p) (sym takes.is) (record {
     number = taken_number kit p takes.register;
     seen = refl;
     own = taken_record kit l (announced_by w.collector) (cycle_of w.collector) w.space w.notices standing p takes.register takes.over own;
+    fixed = taken_fixed kit w.collector w.space w.notices p takes.register fixed;
   })
 
   puts : (q : PassKnown R W E) → Puts kit p q → PassBegun kit l w.collector w.space w.notices p q
@@ -48,6 +54,7 @@ module _ {R W E M : Type 0} (kit : Kit R W E M) (by : Stepping R W E M) (laws : 
     number = refl;
     seen = refl;
     own = put_record kit l (announced_by w.collector) (cycle_of w.collector) w.space w.notices p put.register put.word put.idle put.has own;
+    fixed = put_fixed kit w.collector w.space w.notices p put.register put.word put.idle put.has fixed;
   })
 
   idle_number : p.pass.machine ≡ machine.Idle → number_of p ≡ number_of (in_machine p machine.Idle)
@@ -63,6 +70,7 @@ module _ {R W E M : Type 0} (kit : Kit R W E M) (by : Stepping R W E M) (laws : 
         number = same_number kit by laws l (announced_by w.collector) (cycle_of w.collector) w.space w.notices refl standing p idle start.request to.0 start.fits to.1 ∙ sym (idle_number start.idle);
         seen = refl;
         own = begun_record kit by laws l (announced_by w.collector) (cycle_of w.collector) w.space w.notices refl standing p idle start.request to.0 start.fits to.1;
+        fixed = begun_fixed kit w.collector w.space w.notices by laws l p idle.answering.retired (λ i. (idle.registers i).0) (subst (λ (m : PassMachine R W E). IsFixedPass kit w.collector w.space w.notices (in_machine p m)) start.idle fixed) start.request to.0 start.fits to.1;
       })
 
   begins : (q : Party R W E M) → Begins kit l (party.Pass p) q → LawfulRecords kit l ws (q ∷ others)

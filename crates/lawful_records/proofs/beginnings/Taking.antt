@@ -126,8 +126,8 @@ module _ {R W E M : Type 0} (kit : Kit R W E M) (l : Sizes) (a : Announced) (c :
   rested_is : (p : PassKnown R W E) (m : PassMachine R W E) (register : Option ℕ) → HasEnded kit m → IsMachine kit l c s n (in_machine p m) m → IsMachine kit l c s n (taken kit (in_machine p m) register) (rested kit m)
   rested_is p machine.Idle register over is = absurd over
   rested_is p machine.Retired register over is = absurd over
-  rested_is p (machine.Retire retire.Ended) (Some register) over is = is.1
-  rested_is p (machine.Retire retire.Ended) None over is = is.1
+  rested_is p (machine.Retire retire.Ended) (Some register) over is = is
+  rested_is p (machine.Retire retire.Ended) None over is = is
   rested_is p (machine.Retire m) register over is = absurd over
   rested_is p m register over is = tt
 

@@ -1,18 +1,22 @@
 -- What a call under way stands on, and what its step comes to, by what is known of it alone.
-use Rattle.std.proofs.Common.{◌≡◌, ◌≢◌, ℕ, false, List, Option}
+use Rattle.std.proofs.Common.{◌≡◌, ◌≢◌, ℕ, false, List, Option, Some}
 use Rattle.heap_words.specs.Layouts.{Sizes, IsLayout}
 use Rattle.heap_history.specs.declared.call.Call.{Call}
 use Rattle.handshakes.specs.declared.pass_view.PassView.{PassView}
 use Rattle.barriers.specs.declared.front.Front.{Front}
 use Rattle.barriers.specs.Spaces.{Space, is_mark}
-use Rattle.heap_words.specs.declared.field_word.FieldWord.TheVariants.{Num}
+use Rattle.heap_words.specs.declared.field_word.FieldWord.TheVariants.{Num, Link}
+use Rattle.object_headers.specs.Headers.{header_at}
+use Rattle.handshakes.specs.Follows.{place_by}
+use Rattle.handshakes.specs.declared.follow.FollowMachine.TheVariants as follow
 use Rattle.barriers.specs.Says.{Notices, Says, IsPacked}
 use Rattle.barriers.specs.Rows.{Rows}
 use Rattle.barriers.specs.Stances.{stance_at}
 use Rattle.barriers.specs.Cycles.{Cycle}
 use Rattle.barriers.specs.MoveWords.{IsSpare}
 use Rattle.barriers.specs.Objects.{AreObjects, HasLens, IsSide, IsCall}
-use Rattle.barriers.specs.Knowns.{Known, spot_of, task_of}
+use Rattle.barriers.specs.Accesses.{known_after}
+use Rattle.barriers.specs.Knowns.{Known, Follows, Over, at_field, spot_of, task_of, found_ending}
 use Rattle.barriers.specs.Kits.{Kit, IsFromSearch, own_of, cycle_at}
 use Rattle.lawful_records.specs.Frames.{Grows, SeenBy, SameRegion, Leaves, LeavesSearch}
 use Rattle.lawful_records.specs.LawfulRecords.{IsUnborn}
@@ -50,6 +54,11 @@ module _ {R W E M : Type 0} (kit : Kit R W E M) where
     -- while Free is not announced the mark is not 0
     pub zero : is_mark c.mark (Num 0) ≡ false
     pub met : HasSpot seen k
+
+  -- It was at a field, where the table says how it goes on, or it followed a link.
+  pub data WentOn (c : Cycle) (s : Space) (memory : ℕ → ℕ) (v : PassView) (seen : List Call) (k then : Known) : Type 0 where
+    Fed : at_field k ≡ Some (spot_of k) → then ≡ known_after kit.protocol c s (side_at kit v seen) k → WentOn c s memory v seen k then
+    Led : (birth at : ℕ) → k ≡ Follows (spot_of k) (task_of k) (follow.Header birth at) → then ≡ Over (spot_of k) (task_of k) (found_ending (task_of k) (Link birth (place_by (header_at (memory at)) at))) → WentOn c s memory v seen k then
 
   -- By its step, with this change or this look at an object with this seal, the space becomes t, which the words say then; the call goes on
   -- as `next`.

@@ -35,7 +35,7 @@ module _ {R W E M : Type 0} (kit : Kit R W E M) (by : Stepping R W E M) (laws : 
     pub read_inside : IsInside (words_of l) (by.read_asks m)
     read_inside = machine_inside kit laws.table laws.movable by.read_asks by.read_fed by.read_front kit.reads kit.ReadsFor kit.read_ended read_said laws.reading l c s n (reading words) p.pass.view p.seen m stands.own.machine.1 read_stands
 
-    read_goes : by.read_asks m ≢ Ended → MachineGoes kit laws.table laws.movable by.read_asks by.read_fed by.read_front kit.reads kit.ReadsFor kit.read_ended read_said laws.reading l c s n (reading words) p.pass.view p.seen m stands.own.machine.1 read_stands
+    pub read_goes : by.read_asks m ≢ Ended → MachineGoes kit laws.table laws.movable by.read_asks by.read_fed by.read_front kit.reads kit.ReadsFor kit.read_ended read_said laws.reading l c s n (reading words) p.pass.view p.seen m stands.own.machine.1 read_stands
         (reading (applied (by.read_asks m) words)) (change_in kit by (in_machine p (machine.Read m)) words)
     read_goes on =
         let is = stands.own.machine in
@@ -52,7 +52,7 @@ module _ {R W E M : Type 0} (kit : Kit R W E M) (by : Stepping R W E M) (laws : 
         let is = stands.own.machine in
         let gone = read_goes on in
         turn_in_call kit by l a c s n p words (machine.Read m) (kit.reads m) (kit.reads (by.read_fed m read_found)) (in_read kit m) stands (in_read kit (by.read_fed m read_found)) gone.space gone.goes
-        (untold kit by laws l c s n (in_machine p (machine.Read m)) is on) (gone.goes.call, gone.keeps, gone.same.task ∙ is.2)
+        (untold kit by laws l c s n (in_machine p (machine.Read m)) is on) gone.fields (gone.goes.call, gone.keeps, gone.same.task ∙ is.2)
 
   -- ---- in a write
 
@@ -67,7 +67,7 @@ module _ {R W E M : Type 0} (kit : Kit R W E M) (by : Stepping R W E M) (laws : 
     pub write_inside : IsInside (words_of l) (by.write_asks m)
     write_inside = machine_inside kit laws.table laws.movable by.write_asks by.write_fed by.write_front kit.writes kit.WritesFor kit.write_ended write_said laws.writing l c s n (reading words) p.pass.view p.seen m stands.own.machine.1 write_stands
 
-    write_goes : by.write_asks m ≢ Ended → MachineGoes kit laws.table laws.movable by.write_asks by.write_fed by.write_front kit.writes kit.WritesFor kit.write_ended write_said laws.writing l c s n (reading words) p.pass.view p.seen m stands.own.machine.1 write_stands
+    pub write_goes : by.write_asks m ≢ Ended → MachineGoes kit laws.table laws.movable by.write_asks by.write_fed by.write_front kit.writes kit.WritesFor kit.write_ended write_said laws.writing l c s n (reading words) p.pass.view p.seen m stands.own.machine.1 write_stands
         (reading (applied (by.write_asks m) words)) (change_in kit by (in_machine p (machine.Write m)) words)
     write_goes on =
         let is = stands.own.machine in
@@ -84,7 +84,7 @@ module _ {R W E M : Type 0} (kit : Kit R W E M) (by : Stepping R W E M) (laws : 
         let is = stands.own.machine in
         let gone = write_goes on in
         turn_in_call kit by l a c s n p words (machine.Write m) (kit.writes m) (kit.writes (by.write_fed m write_found)) (in_write kit m) stands (in_write kit (by.write_fed m write_found)) gone.space gone.goes
-        (untold kit by laws l c s n (in_machine p (machine.Write m)) is on) (gone.goes.call, gone.keeps, subst IsWriting (sym gone.same.task) is.2)
+        (untold kit by laws l c s n (in_machine p (machine.Write m)) is on) gone.fields (gone.goes.call, gone.keeps, subst IsWriting (sym gone.same.task) is.2)
 
   -- ---- in an exchange
 
@@ -99,7 +99,7 @@ module _ {R W E M : Type 0} (kit : Kit R W E M) (by : Stepping R W E M) (laws : 
     pub exchange_inside : IsInside (words_of l) (by.exchange_asks m)
     exchange_inside = machine_inside kit laws.table laws.movable by.exchange_asks by.exchange_fed by.exchange_front kit.exchanges kit.ExchangesFor kit.exchange_ended exchange_said laws.exchanging l c s n (reading words) p.pass.view p.seen m stands.own.machine.1 exchange_stands
 
-    exchange_goes : by.exchange_asks m ≢ Ended → MachineGoes kit laws.table laws.movable by.exchange_asks by.exchange_fed by.exchange_front kit.exchanges kit.ExchangesFor kit.exchange_ended exchange_said laws.exchanging l c s n (reading words) p.pass.view p.seen m stands.own.machine.1 exchange_stands
+    pub exchange_goes : by.exchange_asks m ≢ Ended → MachineGoes kit laws.table laws.movable by.exchange_asks by.exchange_fed by.exchange_front kit.exchanges kit.ExchangesFor kit.exchange_ended exchange_said laws.exchanging l c s n (reading words) p.pass.view p.seen m stands.own.machine.1 exchange_stands
         (reading (applied (by.exchange_asks m) words)) (change_in kit by (in_machine p (machine.Exchange m)) words)
     exchange_goes on =
         let is = stands.own.machine in
@@ -116,4 +116,4 @@ module _ {R W E M : Type 0} (kit : Kit R W E M) (by : Stepping R W E M) (laws : 
         let is = stands.own.machine in
         let gone = exchange_goes on in
         turn_in_call kit by l a c s n p words (machine.Exchange m) (kit.exchanges m) (kit.exchanges (by.exchange_fed m exchange_found)) (in_exchange kit m) stands (in_exchange kit (by.exchange_fed m exchange_found)) gone.space gone.goes
-        (untold kit by laws l c s n (in_machine p (machine.Exchange m)) is on) (gone.goes.call, gone.keeps, subst IsExchanging (sym gone.same.task) is.2)
+        (untold kit by laws l c s n (in_machine p (machine.Exchange m)) is on) gone.fields (gone.goes.call, gone.keeps, subst IsExchanging (sym gone.same.task) is.2)

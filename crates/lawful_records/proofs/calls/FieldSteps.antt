@@ -5,6 +5,7 @@ use Rattle.call_steps.specs.StepLaws.{Put}
 use Rattle.call_steps.specs.Steps.{place_of, put_by, IsInside}
 use Rattle.heap_words.specs.Layouts.{Sizes, words_of}
 use Rattle.heap_words.specs.declared.field_word.FieldWord.{FieldWord}
+use Rattle.heap_words.specs.declared.field_word.FieldWord.TheVariants.{Num}
 use Rattle.object_headers.specs.Changes.{is_clover}
 use Rattle.heap_history.specs.FixedHeaps.{answer}
 use Rattle.heap_history.specs.Histories.{is_change}
@@ -20,7 +21,7 @@ use Rattle.barriers.specs.Stances.{Free, Retired}
 use Rattle.barriers.specs.Spaces.{Space, Here, here, is_mark}
 use Rattle.barriers.specs.Says.{Notices, IsAtWord, IsWritten}
 use Rattle.barriers.specs.Cycles.{Cycle, Side}
-use Rattle.barriers.specs.Knowns.{Known, Checks, Finds, at_field, has_found, spot_of, task_of, call_of, step_of, hand_of, puts, looks}
+use Rattle.barriers.specs.Knowns.{Known, Checks, Follows, Over, Finds, at_field, has_found, spot_of, task_of, call_of, step_of, hand_of, word_in, writes_yet, puts, looks}
 use Rattle.barriers.specs.Events.{Keep, May, grown}
 use Rattle.barriers.specs.Objects.{IsSide, IsCall}
 use Rattle.barriers.specs.Accesses.{put_state, found_in, history_after, space_after, side_after, known_after}
@@ -39,7 +40,7 @@ use Rattle.barriers.proofs.words.Calls.{at_word}
 use Rattle.barriers.proofs.words.Found.{found_word, step_inside}
 use Rattle.barriers.proofs.words.Packed.{found_fits}
 use Rattle.barriers.proofs.words.SpareCalls.{spare_after}
-use Rattle.lawful_records.specs.Frames.{Grows, Left, Same, Untagged, KeepsUnmarked, LeavesSearch}
+use Rattle.lawful_records.specs.Frames.{KeepsFields, Grows, Left, Same, Untagged, KeepsUnmarked, LeavesSearch}
 use Rattle.lawful_records.specs.LawfulRecords.{IsUnborn}
 use Rattle.lawful_records.specs.Meetings.{FitsHand}
 use Rattle.lawful_records.specs.Turns.{change_call, with_change, seen_by, LooksOn}
@@ -180,6 +181,33 @@ module _ {R W E M : Type 0} (kit : Kit R W E M) (table : ProtocolLaws kit.protoc
       begun = λ region y begun. elim begun [ inl there ↦ inl (left_there P l s t y (left.at y) there) | inr ends ↦ inr (left.ends region ∙ ends) ];
       unmarked = unmarked_by (outcome k found);
     }
+
+    -- ---- what it leaves of fields
+
+    yet : (y : Known) → at_field y ≡ Some (spot_of y) → writes_yet y ≡ word_in (task_of y)
+    yet (Follows z t m) e = absurd (let gone : None ≡ Some z = e in cc gone)
+    yet (Over z t end) e = absurd (let gone : None ≡ Some z = e in cc gone)
+    yet y e = refl
+
+    put_yet : (w : FieldWord) → puts k found ≡ Some w → writes_yet k ≡ Some w
+    put_yet w e = yet k at_k ∙ puts_word k found w e
+
+    put_fields : (home g : ℕ) (w : FieldWord) → puts k found ≡ Some w → (a f : ℕ) → IsHome (s.state a) → f < s.len a
+        → (IsHome (s.state a) × (f < s.len a) × (set2 s.field home g w a f ≡ s.field a f)) ⊎ ((set2 s.field home g w a f ≡ Num 0) ⊎ (writes_yet k ≡ Some (set2 s.field home g w a f)))
+    put_fields home g w e a f its less = elim (set2_cases s.field home g w a f) [
+      | inl here ↦ inr (inr (put_yet w e ∙ ap Some (sym here.2)))
+      | inr there ↦ inl (its, less, there.1)
+    ]
+
+    fields_by : Outcome k found → KeepsFields (writes_yet k) s t
+    fields_by (Still ev e) a f home less = rw ev (inl (rw ev at home, rw ev at less, refl))
+    fields_by (Keeping ev e) a f home less = rw ev (inl (kept_home a (subst (May c x) ev end.may) (rw ev at home), rw ev at less, refl))
+    fields_by (Putting w ev e) a f home less = rw ev (put_fields (s.home (spot_of k).birth) (spot_of k).field w e a f (rw ev at home) (rw ev at less))
+    fields_by (Putting_copy w ev e) a f home less = rw ev (put_fields (s.home (spot_of k).birth) (spot_of k).field w e a f (rw ev at home) (rw ev at less))
+    fields_by (Widening w ev e) a f home less = rw ev (put_fields (s.home (spot_of k).birth) (spot_of k).field w e a f (rw ev at home) (rw ev at less))
+
+    pub field_keeps : KeepsFields (writes_yet k) s t
+    field_keeps = fields_by (outcome k found)
 
     told_by : Outcome k found → t.history ≡ history_after c s side k
     told_by (Still ev e) = rw (ev, e) refl

@@ -19,7 +19,8 @@ use Rattle.barriers.specs.Says.{Notices, IsPacked}
 use Rattle.barriers.specs.Stances.{stance_at}
 use Rattle.barriers.specs.Cycles.{Cycle}
 use Rattle.barriers.specs.Objects.{IsCall}
-use Rattle.barriers.specs.Knowns.{Known, spot_of}
+use Rattle.barriers.specs.Knowns.{Known, spot_of, writes_yet}
+use Rattle.lawful_records.specs.Frames.{KeepsFields}
 use Rattle.barriers.specs.Kits.{Kit, Stepping}
 use Rattle.lawful_records.specs.Beginnings.{call_ended, ended_call}
 use Rattle.lawful_records.specs.LawfulRecords.{IsAcked, IsMachine, HasTold, IsPassRecord}
@@ -115,7 +116,7 @@ module _ {R W E M : Type 0} (kit : Kit R W E M) where
 
     -- ---- after it
 
-    module _ (is : InCall then next) (t : Space) (goes : CallGoes kit l c s t n (reading (applied (pass_asks kit by m) words)) p.pass.view p.seen change (front_by kit by m found) seal next) (untold : call_ended kit (in_machine p m) ≡ []) where
+    module _ (is : InCall then next) (t : Space) (goes : CallGoes kit l c s t n (reading (applied (pass_asks kit by m) words)) p.pass.view p.seen change (front_by kit by m found) seal next) (untold : call_ended kit (in_machine p m) ≡ []) (fields : KeepsFields (writes_yet k) s t) where
       past : Before p.seen now
       past = seen_grows change (front_by kit by m found) seal s.history p.seen held.side.past goes.looks
 
@@ -200,6 +201,7 @@ module _ {R W E M : Type 0} (kit : Kit R W E M) where
           };
           leaves = goes.leaves;
           search = rw (was.view p.pass.view) goes.search;
+          fields = rw was.known fields;
           history = goes.history;
           number = number_after;
           looks = subst (λ (seal : Option (List Call)). LooksOn (front_by kit by m found) seal s.history p.seen) (sym its_seal) goes.looks;

@@ -1,5 +1,5 @@
 -- The step of a call's machine, of whatever kind it is.
-use Rattle.std.proofs.Common.{◌≡◌, ◌≢◌, ℕ, List, Option, Some, refl, sym, ap, ◌∙◌, subst}
+use Rattle.std.proofs.Common.{inl, ◌≡◌, ◌≢◌, ℕ, List, Option, Some, refl, sym, ap, ◌∙◌, subst}
 use Rattle.call_steps.specs.StepLaws.{Put}
 use Rattle.call_steps.specs.Steps.{place_of, put_by, IsInside}
 use Rattle.call_steps.specs.declared.step.Step.{Step}
@@ -7,21 +7,23 @@ use Rattle.call_steps.specs.declared.step.Step.TheVariants.{Ended}
 use Rattle.heap_words.specs.Layouts.{Sizes, words_of}
 use Rattle.heap_history.specs.declared.call.Call.{Call}
 use Rattle.handshakes.specs.declared.follow.FollowMachine.{FollowMachine}
+use Rattle.handshakes.specs.declared.follow.FollowMachine.TheVariants as follow
 use Rattle.handshakes.specs.Follows as follows
+use Rattle.lawful_records.specs.Frames.{KeepsFields}
 use Rattle.handshakes.specs.declared.pass_view.PassView.{PassView}
 use Rattle.barriers.specs.declared.front.Front.{Front}
 use Rattle.barriers.specs.Spaces.{Space, here, copy_word}
 use Rattle.barriers.specs.Says.{Notices}
 use Rattle.barriers.specs.Cycles.{Cycle}
-use Rattle.barriers.specs.Knowns.{Known, Follows, Over, Ending, at_field, spot_of, task_of, step_of, followed}
+use Rattle.barriers.specs.Knowns.{Known, Follows, Over, Ending, at_field, spot_of, task_of, step_of, followed, writes_yet}
 use Rattle.barriers.specs.Kits.{Kit, Runs, Stands, IsWordOf, IsCurrent, own_of}
 use Rattle.barriers.specs.Accesses.{found_in, space_after}
 use Rattle.barriers.specs.ProtocolLaws.{ProtocolLaws}
 use Rattle.barriers.specs.CycleLaws.{MovingLaws}
 use Rattle.lawful_records.specs.Turns.{change_call}
-use Rattle.lawful_records.proofs.calls.CallSteps.{SameCall, CallStands, CallGoes}
+use Rattle.lawful_records.proofs.calls.CallSteps.{SameCall, CallStands, WentOn, Fed, Led, CallGoes}
 use Rattle.lawful_records.proofs.calls.LinkSteps.{follow_goes}
-use Rattle.lawful_records.proofs.calls.FieldSteps.{its_step_inside, its_word_found, its_current, field_goes}
+use Rattle.lawful_records.proofs.calls.FieldSteps.{its_step_inside, its_word_found, its_current, field_keeps, field_goes}
 use Rattle.lawful_records.proofs.telling.Replies.{EndsSo}
 use Rattle.lawful_records.proofs.turns.Holding.{side_at}
 
@@ -50,6 +52,8 @@ module _ {R W E M K End : Type 0} (kit : Kit R W E M) (table : ProtocolLaws kit.
     pub keeps : For v (fed m found)
     pub same : SameCall (knows m) (knows (fed m found))
     pub space : Space
+    pub fields : KeepsFields (writes_yet (knows m)) s space
+    pub went : WentOn kit c s memory v seen (knows m) (knows (fed m found))
     pub goes : CallGoes kit l c s space n after v seen change (fronts m found) (s.seal (let z = spot_of (knows m) in z.at)) (knows (fed m found))
 
   pub machine_goes : asks m ≢ Ended → (after : ℕ → ℕ) → Put memory after (place_of (asks m)) (put_by (asks m) found)
@@ -75,7 +79,11 @@ module _ {R W E M K End : Type 0} (kit : Kit R W E M) (table : ProtocolLaws kit.
           let on = runs.goes v m c.phase (here s (spot_of k).at (spot_of k).field) (copy_word s (spot_of k).at (spot_of k).field) found stood in
           let looks = runs.looks_alike v m c.phase (here s (spot_of k).at (spot_of k).field) (copy_word s (spot_of k).at (spot_of k).field) found stood in
           let gone = field_goes kit table movable l c s n memory v seen k stands (spot_of k) at after step_put (knows (fed m found)) on.0 change change_is (fronts m found) looks in
-          record { keeps = on.1; same = gone.0; space = space_after c s (side_at kit v seen) k; goes = gone.1 }
+          record { keeps = on.1; same = gone.0; space = space_after c s (side_at kit v seen) k; fields = field_keeps kit table movable l c s n memory v seen k stands (spot_of k) at; went = Fed at on.0; goes = gone.1 }
+
+      led_on : (f : FollowMachine) → k ≡ Follows (spot_of k) (task_of k) f → follows.asks_of f ≢ Ended → knows (fed m found) ≡ followed (spot_of k) (task_of k) (follows.fed_of f (memory (place_of (follows.asks_of f)))) → WentOn kit c s memory v seen k (knows (fed m found))
+      led_on (follow.Header birth at) is on then_is = Led birth at is then_is
+      led_on (follow.Ended end) is on then_is = absurd (on refl)
 
       leads : (f : FollowMachine) → k ≡ Follows (spot_of k) (task_of k) f → MachineGoes after change
       leads f is =
@@ -87,7 +95,7 @@ module _ {R W E M K End : Type 0} (kit : Kit R W E M) (table : ProtocolLaws kit.
           let fed_is : knows (fed m found) ≡ followed (spot_of k) (task_of k) (follows.fed_of f (memory (place_of (follows.asks_of f)))) =
           on_link.0 ∙ ap (λ (step : Step). followed (spot_of k) (task_of k) (follows.fed_of f (memory (place_of step)))) asked in
           let gone = follow_goes kit l c s n memory v seen (spot_of k) (task_of k) f (subst (CallStands kit l c s n memory v seen) is stands) runs_on after put_link (knows (fed m found)) fed_is change change_is (fronts m found) on_link.2 (s.seal (let z = spot_of k in z.at)) in
-          record { keeps = on_link.1; same = subst (λ (x : Known). SameCall x (knows (fed m found))) (sym is) gone.0; space = s; goes = gone.1 }
+          record { keeps = on_link.1; same = subst (λ (x : Known). SameCall x (knows (fed m found))) (sym is) gone.0; space = s; fields = λ a f home less. inl (home, less, refl); went = led_on f is runs_on fed_is; goes = gone.1 }
 
       by_standing : Standing k → MachineGoes after change
       by_standing (At at) = at_its_field at

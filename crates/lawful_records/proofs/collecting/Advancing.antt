@@ -23,7 +23,7 @@ use Rattle.lawful_records.specs.declared.stage.Stage.{Stage}
 use Rattle.lawful_records.specs.declared.collector.CollectorMachine.{CollectorMachine}
 use Rattle.lawful_records.specs.declared.collector.CollectorMachine.TheVariants as collector
 use Rattle.lawful_records.specs.declared.stage.TheConstants.{SEARCHES}
-use Rattle.lawful_records.specs.Collectors.{mark_word, undrawn, unsearched, searched, is_refused, stage_before, stage_of, passed_of, drawn_of, fed_of, look, looked, sought, work_at, moves_at, behind_by}
+use Rattle.lawful_records.specs.Collectors.{mark_word, undrawn, unsearched, searched, is_refused, stage_before, stage_of, passed_of, drawn_of, fed_of, look, looked, retired_by, sought, work_at, moves_at, behind_by}
 use Rattle.lawful_records.specs.Cycling.{announced_at, announced_by, clear_by, clear_until, clear_awaiting}
 use Rattle.lawful_records.specs.Handshakes.{HasDrawn, IsMarked, IsStage, IsSearch}
 use Rattle.lawful_records.proofs.collecting.Playing.{look_tells, has_drawn, seeks_marks}
@@ -31,7 +31,7 @@ use Rattle.lawful_records.proofs.collecting.Works.{IsBefore, stage_is, passed_is
 
 -- ---- the stage that is announced
 
-as_announced : (s : Stage) (a : Announcement) → s.announcement ≡ a → record s { announcement = a } ≡ s
+pub as_announced : (s : Stage) (a : Announcement) → s.announcement ≡ a → record s { announcement = a } ≡ s
 as_announced s a is = sym (ap (λ (a : Announcement). record s { announcement = a }) is)
 
 -- the same is announced as at this stage
@@ -101,19 +101,27 @@ module _ {R W E M : Type 0} (kit : Kit R W E M) (plan : Planned) (l : Sizes) (ki
   same_behind Confirm e = to_copy_by (is_clover s.kind) refl e
   same_behind Search e = (λ n. refl, refl)
   same_behind Copy e = to_fix_by (is_clover s.kind) e
-  same_behind Fix e = (says_as (record s { announcement = Fix }) s (as_announced s Fix e), refl)
+  same_behind Fix e = (λ n. refl, refl)
   same_behind Free e = free_by (nat_lt s.cycle s.cycles) e
 
   -- ---- a look
 
-  awaited_says : (pass : ℕ) (more : Bool) → Says (stage_of (if more then look {M = M} s (pass + 1) else behind_by kit plan s.announcement s)) s
+  pub awaited_says : (pass : ℕ) (more : Bool) → Says (stage_of (if more then look {M = M} s (pass + 1) else behind_by kit plan s.announcement s)) s
   awaited_says pass true = λ n. refl
   awaited_says pass false = (same_behind s.announcement refl).0
+
+  retired_says : (pass : ℕ) (a : Announcement) → Says (stage_of (retired_by kit plan a s pass)) s
+  retired_says pass Fix = λ n. refl
+  retired_says pass Mark = awaited_says pass (nat_lt pass s.layout.passes)
+  retired_says pass Confirm = awaited_says pass (nat_lt pass s.layout.passes)
+  retired_says pass Search = awaited_says pass (nat_lt pass s.layout.passes)
+  retired_says pass Copy = awaited_says pass (nat_lt pass s.layout.passes)
+  retired_says pass Free = awaited_says pass (nat_lt pass s.layout.passes)
 
   -- it leaves what is announced, whatever it finds
   pub looked_says : (pass : ℕ) (m : AwaitMachine) (end : Option AwaitEnd) → Says (stage_of (looked kit plan s pass m end)) s
   looked_says pass m (Some Answered) = awaited_says pass (nat_lt pass s.layout.passes)
-  looked_says pass m (Some Retired) = awaited_says pass (nat_lt pass s.layout.passes)
+  looked_says pass m (Some Retired) = retired_says pass s.announcement
   looked_says pass m (Some (NotYet at found)) = λ n. refl
   looked_says pass m None = λ n. refl
 
@@ -128,7 +136,7 @@ module _ {R W E M : Type 0} (kit : Kit R W E M) (plan : Planned) (l : Sizes) (ki
       (same_behind s.announcement refl).1 ∙ omega (arith, there.0, there.1, most, all)
 
   -- the await goes on to the next pass, or the next announcement comes
-  advances_awaited : (pass : ℕ) (acked : ℕ → ℕ) (more : Bool) → IsPass l pass → nat_lt pass s.layout.passes ≡ more → HasAnswered (announced_by {M = M} (look s pass)) (acked pass)
+  pub advances_awaited : (pass : ℕ) (acked : ℕ → ℕ) (more : Bool) → IsPass l pass → nat_lt pass s.layout.passes ≡ more → HasAnswered (announced_by {M = M} (look s pass)) (acked pass)
       → Advances l acked (announced_by {M = M} (look s pass)) (announced_by (if more then look s (pass + 1) else behind_by kit plan s.announcement s))
   advances_awaited pass acked more there e answered =
       let a : Announced = announced_by {M = M} (look s pass) in
@@ -144,7 +152,7 @@ module _ {R W E M : Type 0} (kit : Kit R W E M) (plan : Planned) (l : Sizes) (ki
       let Leads : CollectorMachine M → Type 0 = λ k. Advances l acked (announced_by {M = M} (look s pass)) (announced_by k) in
       elim (look_tells kit plan fed s pass (acked pass)) [
         | inl on ↦ subst Leads (sym on.1) (advances_awaited pass acked (nat_lt pass s.layout.passes) there refl on.0)
-        | inr again ↦ subst Leads (sym again) Stays
+        | inr rest ↦ elim rest [ inl again ↦ subst Leads (sym again) Stays | inr roots ↦ subst Leads (sym roots.2) Stays ]
       ]
 
 -- ---- what a look leaves: the mark word, and whether a search has ended clear
@@ -189,13 +197,21 @@ module _ {R W E M : Type 0} (kit : Kit R W E M) (plan : Planned) (l : Sizes) (ki
   behind_leaves Fix e = (refl, refl)
   behind_leaves Free e = free_leaves (nat_lt s.cycle s.cycles)
 
-  awaited_leaves : (pass : ℕ) (more : Bool) → Leaves s.announcement (if more then look {M = M} s (pass + 1) else behind_by kit plan s.announcement s)
+  pub awaited_leaves : (pass : ℕ) (more : Bool) → Leaves s.announcement (if more then look {M = M} s (pass + 1) else behind_by kit plan s.announcement s)
   awaited_leaves pass true = (refl, refl)
   awaited_leaves pass false = behind_leaves s.announcement refl
 
+  retired_leaves : (pass : ℕ) (a : Announcement) → Leaves s.announcement (retired_by kit plan a s pass)
+  retired_leaves pass Fix = (refl, refl)
+  retired_leaves pass Mark = awaited_leaves pass (nat_lt pass s.layout.passes)
+  retired_leaves pass Confirm = awaited_leaves pass (nat_lt pass s.layout.passes)
+  retired_leaves pass Search = awaited_leaves pass (nat_lt pass s.layout.passes)
+  retired_leaves pass Copy = awaited_leaves pass (nat_lt pass s.layout.passes)
+  retired_leaves pass Free = awaited_leaves pass (nat_lt pass s.layout.passes)
+
   pub looked_leaves : (pass : ℕ) (m : AwaitMachine) (end : Option AwaitEnd) → Leaves s.announcement (looked kit plan s pass m end)
   looked_leaves pass m (Some Answered) = awaited_leaves pass (nat_lt pass s.layout.passes)
-  looked_leaves pass m (Some Retired) = awaited_leaves pass (nat_lt pass s.layout.passes)
+  looked_leaves pass m (Some Retired) = retired_leaves pass s.announcement
   looked_leaves pass m (Some (NotYet at found)) = (refl, refl)
   looked_leaves pass m None = (refl, refl)
 

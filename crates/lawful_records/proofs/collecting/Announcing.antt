@@ -12,7 +12,7 @@ use Rattle.handshakes.specs.declared.pass_view.PassView.{PassView}
 use Rattle.handshakes.specs.Handshakes.{Announced, AnswersWith}
 use Rattle.space_reclaim.specs.Plans.{Planned}
 use Rattle.barriers.specs.Stances.{stance_at, mark_in}
-use Rattle.barriers.specs.Cycles.{Cycle, Told, Nobody, ToldFits, Handshaken}
+use Rattle.barriers.specs.Cycles.{Cycle, Told, Nobody, Everybody, ToldFits, Handshaken}
 use Rattle.barriers.specs.Kits.{own_of}
 use Rattle.lawful_records.specs.declared.stage.Announcement.{Announcement}
 use Rattle.lawful_records.specs.declared.stage.Announcement.TheVariants.{Mark, Confirm, Search, Copy, Fix, Free}
@@ -28,6 +28,9 @@ use Rattle.lawful_records.specs.Collectors.{word_of, round_of, mark_word, mark_b
 use Rattle.lawful_records.specs.Cycling.{announced_at, announced_by, cycle_of, told_before, told_until, clear_until}
 use Rattle.lawful_records.specs.Handshakes.{IsMarked, IsStage, IsLast, IsSearch, IsCollector}
 use Rattle.lawful_records.specs.PassTurns.{side_with, IsAnnounced}
+use Rattle.handshakes.specs.declared.answer.AwaitMachine.TheVariants as await
+use Rattle.lawful_records.proofs.collecting.Advancing.{as_announced}
+use Rattle.lawful_records.proofs.collecting.Playing.{marked_free}
 use Rattle.lawful_records.proofs.CollectorLaws.{runs}
 use Rattle.lawful_records.proofs.collecting.Stages.{IsSaid, RoundFits, stance_by, stance_word, phase_word, ahead_of, ahead_is, stage_said, before_said}
 use Rattle.lawful_records.proofs.collecting.Fitting.{told_then, unowned, own_now}
@@ -100,6 +103,11 @@ module _ (minds : Bool) (l : Sizes) (kind : Kind) (cycles : ℕ) (few : cycles �
     until_announced = all_announced (stage_before s) s.layout.passes (before_said l kind cycles few s is) passes (told_until s) (mark_word s) (clear_until s)
         (λ view seen acked mark. until_shaken minds l kind cycles few same s is view seen true (stance_at (word_of (stage_before s))) acked mark)
 
+    free_announced : (free : Stage) → IsStage l kind cycles free → IsAnnounced minds l (announced_at (stage_before free) free.layout.passes) (record { late = true; phase = stance_at (word_of (stage_before free)); told = told_until free; mark = mark_in (mark_word free); clear = clear_until free }) (mark_word free)
+    free_announced free free_is =
+        all_announced (stage_before free) free.layout.passes (before_said l kind cycles few free free_is) (ap (λ (t : Sizes). t.passes) free_is.layout) (told_until free) (mark_word free) (clear_until free)
+        (λ view seen acked mark. until_shaken minds l kind cycles few same free free_is view seen true (stance_at (word_of (stage_before free))) acked mark)
+
     await_announced : (M : Type 0) (pass : ℕ) (m : _) → IsAnnounced minds l (announced_by {M = M} (collector.Await s pass m)) (cycle_of {M = M} (collector.Await s pass m)) (mark_word s)
     await_announced M pass m = record {
       stance = refl;
@@ -123,6 +131,14 @@ module _ (minds : Bool) (l : Sizes) (kind : Kind) (cycles : ℕ) (few : cycles �
         ]
       ];
     }
+
+    -- before Free is announced, after the await of Fix
+    walk_announced : s.announcement ≡ Fix → IsAnnounced minds l (announced_at s s.layout.passes) (record { late = true; phase = stance_at (word_of s); told = Everybody; mark = mark_in (mark_word s); clear = s.marks.clear }) (mark_word s)
+    walk_announced fix =
+        let free : Stage = record s { announcement = Free } in
+        let free_is : IsStage l kind cycles free = record { layout = is.layout; kind_is = is.kind_is; cycles_are = is.cycles_are; first = is.first; last = is.last; marked = marked_free (is_clover kind) s.cycle s.marks (subst (λ (a : Announcement). IsMarked (is_clover kind) a s.cycle s.marks) fix is.marked) } in
+        subst (λ (b : Stage). IsAnnounced minds l (announced_at b s.layout.passes) (record { late = true; phase = stance_at (word_of b); told = Everybody; mark = mark_in (mark_word s); clear = s.marks.clear }) (mark_word s)) (as_announced s Fix fix)
+        (free_announced free free_is)
 
   module _ (s : Stage) (is : IsSearch l kind cycles s) where
     never : (clover : Bool) → IsMarked clover s.announcement s.cycle s.marks → clover ≡ false → ⊥
@@ -169,4 +185,6 @@ module _ (minds : Bool) (l : Sizes) (kind : Kind) (cycles : ℕ) (few : cycles �
   announced_is plan (collector.Target s region next) is = until_announced s is.0.stage
   announced_is plan (collector.Tag s job next) is = until_announced s is.0.stage
   announced_is plan (collector.Move s job next m) is = until_announced s is.0.stage
+  announced_is {M = M} plan (collector.Roots s pass reg m) is = await_announced s is.stage M pass (await.Acknowledgement 0 0 0)
+  announced_is plan (collector.Walk s m) is = walk_announced s is.stage is.fix
   announced_is plan (collector.Done s) is = done_announced s is

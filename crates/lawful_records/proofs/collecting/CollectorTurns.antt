@@ -1,7 +1,24 @@
 -- A turn of the collector keeps lawful records.
-use Rattle.std.specs.Prelude.{slice_index, Bool, true, false, if◌then◌else◌, ◌≤◌}
+use Rattle.std.specs.Prelude.{slice_index, Bool, true, false, if◌then◌else◌, ◌≤◌, ◌==◌, ◌<◌, sum_by}
+use Rattle.std.proofs.lemmas.Bool.{eqb-true}
+use Rattle.std.proofs.lemmas.List.Elements.{All-cons}
+use Rattle.std.proofs.lemmas.List.Sums.{sum_by-cons}
+use Rattle.heap_words.specs.Layouts.{IsPass}
+use Rattle.handshakes.specs.PhaseWords.{retired_word}
+use Rattle.handshakes.specs.declared.retire.RetireMachine.TheVariants as retire
+use Rattle.barriers.specs.Spaces.{Holds}
+use Rattle.barriers.specs.States.{On}
+use Rattle.barriers.specs.declared.pass.PassMachine.{PassMachine}
+use Rattle.barriers.specs.declared.pass.PassMachine.TheVariants as machine
+use Rattle.lawful_records.specs.declared.records.PassKnown.{PassKnown}
+use Rattle.lawful_records.specs.Cycling.{announced_by, cycle_of}
+use Rattle.lawful_records.specs.Fixing.{IsFixedPass, IsFixedParty, AreFixed}
+use Rattle.lawful_records.specs.LawfulRecords.{IsAcked, IsMachine, IsPassRecord, is_pass_of}
+use Rattle.lawful_records.specs.Records.{number_of, acked_of}
+use Rattle.lawful_records.proofs.fixing.RootTurns.{root_inside_of, root_goes}
+use Rattle.lawful_records.proofs.fixing.Walking.{walk_inside_of, walk_goes}
 use Rattle.std.specs.List.{All}
-use Rattle.std.proofs.Common.{◌≢◌, ℕ, List, ◌∷◌, length, get_or, refl, sym, ◌∙◌, subst, arith, length-append, ◌++◌}
+use Rattle.std.proofs.Common.{◌≡◌, ◌≢◌, ap, ℕ, List, [], ◌∷◌, length, get_or, refl, sym, ◌∙◌, subst, arith, length-append, ◌++◌}
 use Rattle.std.proofs.lemmas.List.Elements.{All-head, All-tail}
 use Rattle.call_steps.specs.declared.step.Step.TheVariants.{Ended}
 use Rattle.call_steps.specs.Steps.{place_of, applied, IsInside}
@@ -70,6 +87,11 @@ earlier_after (collector.Await s pass m) after changes h are = by_end (is_await 
     by_end : (on : Bool) → AreEarlier changes (if on then h else with_await s.announcement changes h)
     by_end true = are
     by_end false = earlier_with s.announcement changes h are
+earlier_after (collector.Roots s pass reg m) after changes h are = by_end (is_await after)
+  where
+    by_end : (on : Bool) → AreEarlier changes (if on then h else with_await s.announcement changes h)
+    by_end true = are
+    by_end false = earlier_with s.announcement changes h are
 earlier_after k after changes h are = are
 
 -- ---- its step
@@ -92,6 +114,8 @@ module _ {R W E M : Type 0} (kit : Kit R W E M) (by : Stepping R W E M) (laws : 
   inside_of (collector.Target st region next) stands = target_inside kit by laws l words plan s n counts sealed st region next stands
   inside_of (collector.Tag st job next) stands = tag_inside kit by laws l words plan s n counts sealed st job next stands
   inside_of (collector.Move st job next m) stands = move_inside kit by laws l words plan s n counts sealed st job next m stands
+  inside_of (collector.Roots st pass reg m) stands = root_inside_of kit by laws l words plan s n counts sealed st pass reg m stands
+  inside_of (collector.Walk st m) stands = walk_inside_of kit by laws l words plan s n counts sealed st m stands
   inside_of (collector.Done st) stands = tt
 
   goes_of : (k : CollectorMachine M) → Stands k → collector_asks kit by k ≢ Ended → CollectorGoes kit by l words plan s n sealed k
@@ -103,6 +127,8 @@ module _ {R W E M : Type 0} (kit : Kit R W E M) (by : Stepping R W E M) (laws : 
   goes_of (collector.Target st region next) stands on = target_goes kit by laws l words plan s n counts sealed st region next stands
   goes_of (collector.Tag st job next) stands on = tag_goes kit by laws l words plan s n counts sealed st job next stands
   goes_of (collector.Move st job next m) stands on = move_goes kit by laws l words plan s n counts sealed st job next m stands
+  goes_of (collector.Roots st pass reg m) stands on = root_goes kit by laws l words plan s n counts sealed st pass reg m stands
+  goes_of (collector.Walk st m) stands on = walk_goes kit by laws l words plan s n counts sealed st m stands
   goes_of (collector.Done st) stands on = absurd (on refl)
 
 -- ---- the records
@@ -110,6 +136,33 @@ module _ {R W E M : Type 0} (kit : Kit R W E M) (by : Stepping R W E M) (laws : 
 module _ {R W E M : Type 0} (kit : Kit R W E M) (by : Stepping R W E M) (laws : Laws kit by) (l : Sizes) (words : List ℕ) (others : List (Party R W E M)) (q : CollectorKnown M) (w : LawfulRecords kit l words (party.Collector q ∷ others)) where
   own : IsCollectorRecord kit l w.collector w.space q
   own = All-head (IsParty kit l w.collector w.space w.notices) (party.Collector q) others w.each
+
+  -- ---- root words of passes that have retired
+
+  retired_holds : (p : PassKnown R W E) → IsPassRecord kit l (announced_by w.collector) (cycle_of w.collector) w.space w.notices p → (m : PassMachine R W E) → IsAcked kit m (acked_of p) → acked_of p ≡ retired_word → IsMachine kit l (cycle_of w.collector) w.space w.notices p m
+      → (reg : ℕ) → reg < 8 → On (Holds w.space) (w.notices.root (number_of p) reg)
+  retired_holds p own machine.Retired acked retired is reg less = (is reg less).good.1
+  retired_holds p own (machine.Retire retire.Ended) acked retired is reg less = (is reg less).good.1
+  retired_holds p own m acked retired is reg less = absurd (acked retired)
+
+  rooted_in : (pass : ℕ) → w.notices.ack pass ≡ retired_word → (rs : List (Party R W E M)) → 1 ≤ sum_by (is_pass_of kit pass) rs → All (IsParty kit l w.collector w.space w.notices) rs → (reg : ℕ) → reg < 8 → On (Holds w.space) (w.notices.root pass reg)
+  rooted_in pass retired [] some each reg less = absurd (omega (arith, some))
+  rooted_in pass retired (party.Collector x ∷ rs) some each reg less =
+      rooted_in pass retired rs (omega (arith, some, sum_by-cons (is_pass_of kit pass) (party.Collector x) rs)) (All-tail (IsParty kit l w.collector w.space w.notices) (party.Collector x) rs each) reg less
+  rooted_in pass retired (party.Pass p ∷ rs) some each reg less = by_number (λ none. rooted_in pass retired rs (omega (arith, some, none, sum_by-cons (is_pass_of kit pass) (party.Pass p) rs)) (All-tail (IsParty kit l w.collector w.space w.notices) (party.Pass p) rs each) reg less) (number_of p == pass) refl
+    where
+      its : IsPassRecord kit l (announced_by w.collector) (cycle_of w.collector) w.space w.notices p
+      its = All-head (IsParty kit l w.collector w.space w.notices) (party.Pass p) rs each
+
+      by_number : (is_pass_of kit pass (party.Pass p) ≡ 0 → On (Holds w.space) (w.notices.root pass reg)) → (same : Bool) → (number_of p == pass) ≡ same → On (Holds w.space) (w.notices.root pass reg)
+      by_number rest true e =
+          let number : number_of p ≡ pass = eqb-true (number_of p) pass e in
+          subst (λ (x : ℕ). On (Holds w.space) (w.notices.root x reg)) number
+          (retired_holds p its p.pass.machine its.answering.retired (sym its.answering.acked ∙ (ap w.notices.ack number ∙ retired)) its.machine reg less)
+      by_number rest false e = rest (ap (λ (b : Bool). if b then 1 else 0) e)
+
+  rooted_all : (pass : ℕ) → IsPass l pass → w.notices.ack pass ≡ retired_word → (reg : ℕ) → reg < 8 → On (Holds w.space) (w.notices.root pass reg)
+  rooted_all pass there retired reg less = rooted_in pass retired (party.Collector q ∷ others) (let one = w.parties.passes pass there in omega (arith, one)) w.each reg less
 
   abbrev pub StandsAs : CollectorMachine M → Type 0
   StandsAs k = CollectorStands kit by l words q.plan w.space w.notices q.awaited q.sealed k
@@ -135,6 +188,8 @@ module _ {R W E M : Type 0} (kit : Kit R W E M) (by : Stepping R W E M) (laws : 
     search = own.search;
     awaited = own.awaited;
     sealed_are = own.sealed;
+    rooted = rooted_all;
+    fixed = record { aside = All-head (IsFixedParty kit w.collector w.space w.notices) (party.Collector q) others w.fixed.each; stands = w.fixed.stands };
   })
 
   -- its step is on a word that is there
@@ -188,6 +243,24 @@ module _ {R W E M : Type 0} (kit : Kit R W E M) (by : Stepping R W E M) (laws : 
     each : All (IsParty kit l next goes.space goes.notices) others
     each i d within = party_goes (get_or others i d) (others_pass kit l q others w.parties i d within) (All-tail (IsParty kit l w.collector w.space w.notices) (party.Collector q) others w.each i d within)
 
+    -- what is fixed then
+    party_fixed : (r : Party R W E M) → IsPassParty r → IsParty kit l w.collector w.space w.notices r → IsFixedParty kit w.collector w.space w.notices r → IsFixedParty kit next goes.space goes.notices r
+    party_fixed (party.Pass p) pass is fixed =
+        let from : CollectorMachine M → Type 0 = λ k. IsPassRecord kit l (announced_by k) (cycle_of k) w.space w.notices p × IsFixedPass kit k w.space w.notices p in
+        let both = subst from (sym own.machine) (is, fixed) in
+        goes.fixed.passes p both.0 both.1
+    party_fixed (party.Collector x) pass is fixed = absurd pass
+
+    fixed_each : All (IsFixedParty kit next goes.space goes.notices) others
+    fixed_each i d within = party_fixed (get_or others i d) (others_pass kit l q others w.parties i d within) (All-tail (IsParty kit l w.collector w.space w.notices) (party.Collector q) others w.each i d within)
+        (All-tail (IsFixedParty kit w.collector w.space w.notices) (party.Collector q) others w.fixed.each i d within)
+
+    fixed_then : AreFixed kit next goes.space goes.notices (party.Collector after ∷ others)
+    fixed_then = record {
+      stands = goes.fixed.own.stands;
+      each = All-cons (IsFixedParty kit next goes.space goes.notices) (party.Collector after) others goes.fixed.own.aside fixed_each;
+    }
+
     moved : CollectorMoved kit l w.space (applied (collector_asks kit by q.machine) words) next goes.space goes.notices after others
     moved = record {
       width = length-applied (collector_asks kit by q.machine) words ∙ w.width;
@@ -215,6 +288,7 @@ module _ {R W E M : Type 0} (kit : Kit R W E M) (by : Stepping R W E M) (laws : 
         fit = fit_then q.machine stands.collects own_counted own.fit goes.seals;
       };
       each = each;
+      fixed = fixed_then;
     }
 
     -- after a turn of the collector records are lawful

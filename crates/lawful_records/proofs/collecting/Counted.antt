@@ -1,16 +1,20 @@
 -- How many jobs have come to something, as the collector goes on.
 use Rattle.std.specs.Prelude.{nat_lt, ◌≤◌, if◌then◌else◌}
 use Rattle.std.specs.List.{slice_get}
-use Rattle.std.proofs.Common.{inl, inr, ◌≡◌, ℕ, ◌+◌, ◌==◌, Bool, true, false, List, Option, Some, None, refl, sym, ap, ◌∙◌, subst, arith}
+use Rattle.std.proofs.Common.{inl, inr, ◌≡◌, ℕ, ◌+◌, ◌-◌, ◌==◌, Bool, true, false, List, Option, Some, None, refl, sym, ap, ◌∙◌, subst, arith}
 use Rattle.std.proofs.lemmas.Bool.Decides.{nat_tests}
 use Rattle.heap_words.specs.Layouts.{Sizes}
+use Rattle.heap_words.specs.declared.limits.TheConstants.{REGISTERS}
 use Rattle.object_headers.specs.declared.change.Kind.{Kind}
 use Rattle.object_headers.specs.Changes.{is_clover}
-use Rattle.handshakes.specs.declared.answer.AwaitMachine.{AwaitMachine}
 use Rattle.mark_search.specs.declared.seek.SeekEnd.{SeekEnd}
 use Rattle.mark_search.specs.declared.seek.SeekEnd.TheVariants.{Clear, MarkFound}
 use Rattle.mark_search.specs.declared.seek.SeekMarkMachine.{SeekMarkMachine}
 use Rattle.mark_search.specs.Seeks as seeks
+use Rattle.reference_fix.specs.declared.root_fix.RootFixMachine.{RootFixMachine}
+use Rattle.reference_fix.specs.declared.fix_walk.FixWalkMachine.{FixWalkMachine}
+use Rattle.reference_fix.specs.RootFixes as roots
+use Rattle.reference_fix.specs.FixWalks as walks
 use Rattle.space_reclaim.specs.declared.move_job.MoveJob.{MoveJob}
 use Rattle.space_reclaim.specs.Plans.{Planned}
 use Rattle.heap_history.specs.declared.call.Call.{Call}
@@ -23,10 +27,10 @@ use Rattle.lawful_records.specs.declared.stage.Stage.{Stage}
 use Rattle.lawful_records.specs.declared.stage.TheConstants.{SEARCHES}
 use Rattle.lawful_records.specs.declared.collector.CollectorMachine.{CollectorMachine}
 use Rattle.lawful_records.specs.declared.collector.CollectorMachine.TheVariants as collector
-use Rattle.lawful_records.specs.Collectors.{is_planned, searched, fed_of, look, sought, tag_at, move_at, target_at, source_at, work_at, moves_at, moved_by, behind_by}
+use Rattle.lawful_records.specs.Collectors.{is_planned, searched, fed_of, look, awaited, root_fix, rooted, walked, sought, tag_at, move_at, target_at, source_at, work_at, moves_at, moved_by, behind_by}
 use Rattle.lawful_records.specs.Counts.{CountsAt, HasCounted, unsealed, unsealed_in, KeepsSeal}
 use Rattle.lawful_records.specs.JobStands.{IsMovedBy}
-use Rattle.lawful_records.specs.Handshakes.{IsStage, IsWork, work_before, IsCollector}
+use Rattle.lawful_records.specs.Handshakes.{IsWork, work_before, IsCollector}
 use Rattle.lawful_records.proofs.collecting.Playing.{look_tells, await_is}
 
 -- before Fix it is none
@@ -120,10 +124,7 @@ module _ {R W E M : Type 0} (kit : Kit R W E M) (plan : Planned) (left : ℕ) (m
     behind_counts Confirm first counts = to_copy_by (is_clover s.kind) refl counts
     behind_counts Search first counts = counts
     behind_counts Copy first counts = to_fix_by (is_clover s.kind) counts
-    behind_counts Fix first counts = free_counts (is_planned s) where
-      free_counts : (has : Bool) → CountsAt has Free n
-      free_counts true = tt
-      free_counts false = tt
+    behind_counts Fix first counts = counts
     behind_counts Free first counts = next_counts (nat_lt s.cycle s.cycles) first
 
     awaited_counts : (pass : ℕ) (more : Bool) → 1 ≤ s.cycle → CountsAt (is_planned s) s.announcement n → Counts (if more then look s (pass + 1) else behind_by kit plan s.announcement s)
@@ -133,8 +134,22 @@ module _ {R W E M : Type 0} (kit : Kit R W E M) (plan : Planned) (left : ℕ) (m
     look_counts : (fed : M → ℕ → M) (pass found : ℕ) → 1 ≤ s.cycle → CountsAt (is_planned s) s.announcement n → Counts (fed_of kit fed plan (look s pass) found)
     look_counts fed pass found first counts = elim (look_tells kit plan fed s pass found) [
       | inl on ↦ subst Counts (sym on.1) (awaited_counts pass (nat_lt pass s.layout.passes) first counts)
-      | inr again ↦ subst Counts (sym again) counts
+      | inr rest ↦ elim rest [ inl again ↦ subst Counts (sym again) counts | inr roots ↦ subst Counts (sym roots.2) counts ]
     ]
+
+    rooted_counts : (pass reg : ℕ) (m : RootFixMachine) (end : Option (Unit {0})) → 1 ≤ s.cycle → CountsAt (is_planned s) s.announcement n → Counts (rooted kit plan s pass reg m end)
+    rooted_counts pass reg m None first counts = counts
+    rooted_counts pass reg m (Some end) first counts = next_root (nat_lt reg (REGISTERS - 1)) where
+      next_root : (more : Bool) → Counts (if more then root_fix s pass (reg + 1) else awaited kit plan s pass)
+      next_root true = counts
+      next_root false = awaited_counts pass (nat_lt pass s.layout.passes) first counts
+
+    walked_counts : (m : FixWalkMachine) (end : Option (Unit {0})) → CountsAt (is_planned s) Fix n → Counts (walked s m end)
+    walked_counts m None counts = counts
+    walked_counts m (Some end) counts = free_counts (is_planned s) where
+      free_counts : (has : Bool) → CountsAt has Free n
+      free_counts true = tt
+      free_counts false = tt
 
     found_counts : (more : Bool) → CountsAt (is_planned s) Search n → Counts (if more then collector.Draw (searched s (s.marks.round + 1)) else collector.Announce at_fix)
     found_counts true counts = counts
@@ -160,6 +175,8 @@ module _ {R W E M : Type 0} (kit : Kit R W E M) (plan : Planned) (left : ℕ) (m
   counts_fed fed l kind cycles before (collector.Target s region next) found idle is counts = target_counts (slice_get plan.jobs next) s next (fix_before l kind cycles s is.0) counts
   counts_fed fed l kind cycles before (collector.Tag s job next) found idle is counts = tag_counts (slice_get plan.jobs next) s next counts
   counts_fed fed l kind cycles before (collector.Move s job next m) found idle is counts = absurd (idle tt)
+  counts_fed fed l kind cycles before (collector.Roots s pass reg m) found idle is counts = rooted_counts s pass reg (roots.fed_of m found) (roots.end_of (roots.fed_of m found)) is.stage.first counts
+  counts_fed fed l kind cycles before (collector.Walk s m) found idle is counts = walked_counts s (walks.fed_of m found) (walks.end_of (walks.fed_of m found)) counts
   counts_fed fed l kind cycles before (collector.Done s) found idle is counts = tt
 
 -- ---- seals

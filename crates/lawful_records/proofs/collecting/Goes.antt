@@ -1,15 +1,16 @@
 -- Where the collector stands before its step, and what the step comes to.
 use Rattle.std.specs.Prelude.{slice_index}
-use Rattle.std.proofs.Common.{◌≡◌, ℕ, ◌≤◌, ◌⊎◌, inl, List, ◌++◌, length, refl, arith}
+use Rattle.std.proofs.Common.{◌≡◌, ℕ, ◌<◌, ◌≤◌, ◌⊎◌, inl, List, ◌++◌, length, refl, arith}
 use Rattle.call_steps.specs.Steps.{place_of, applied}
 use Rattle.call_steps.specs.StepLaws.{reading}
-use Rattle.heap_words.specs.Layouts.{Sizes, IsLayout, words_of}
+use Rattle.heap_words.specs.Layouts.{Sizes, IsLayout, IsPass, words_of}
+use Rattle.handshakes.specs.PhaseWords.{retired_word}
 use Rattle.object_headers.specs.Changes.{AllowedChange}
 use Rattle.space_reclaim.specs.Plans.{Planned}
-use Rattle.barriers.specs.Spaces.{Space}
+use Rattle.barriers.specs.Spaces.{Space, Holds}
 use Rattle.barriers.specs.Says.{Notices, Says, header_in}
 use Rattle.barriers.specs.Rows.{Rows}
-use Rattle.barriers.specs.States.{Absent}
+use Rattle.barriers.specs.States.{Absent, On}
 use Rattle.barriers.specs.MoveWords.{IsSpare}
 use Rattle.barriers.specs.Objects.{AreObjects, HasLens}
 use Rattle.barriers.specs.Cycles.{Cycle, IsMoving}
@@ -20,6 +21,7 @@ use Rattle.lawful_records.specs.declared.records.PassKnown.{PassKnown}
 use Rattle.lawful_records.specs.declared.records.Sealed.{Sealed}
 use Rattle.lawful_records.specs.Collectors.{drawn_of, AreEarlier}
 use Rattle.lawful_records.specs.Cycling.{announced_by, cycle_of}
+use Rattle.lawful_records.specs.Fixing.{AreJobsAside, FixStands, IsFixedPass}
 use Rattle.lawful_records.specs.Frames.{SeenBy, SameRegion, Beside}
 use Rattle.lawful_records.specs.Handshakes.{IsCollector}
 use Rattle.lawful_records.specs.Counts.{KeepsSeal}
@@ -28,6 +30,16 @@ use Rattle.lawful_records.specs.Searches.{SearchStands}
 use Rattle.lawful_records.specs.LawfulRecords.{AreSealed, IsPassRecord}
 use Rattle.lawful_records.specs.Turns.{collector_asks, collector_fed, sealed_now}
 use Rattle.lawful_records.proofs.frames.PassStays.{pass_stays}
+
+-- what is fixed as the collector has it
+pub record CollectorFixed {M : Type 0} (plan : Planned) (k : CollectorMachine M) (s : Space) (n : Notices) : Type 0 where
+  pub aside : AreJobsAside plan k s
+  pub stands : FixStands k s n
+
+-- and what its step makes of that, and of passes
+pub record GoesFixed {R W E M : Type 0} (kit : Kit R W E M) (l : Sizes) (plan : Planned) (k next : CollectorMachine M) (s t : Space) (n o : Notices) : Type 0 where
+  pub own : CollectorFixed plan next t o
+  pub passes : (p : PassKnown R W E) → IsPassRecord kit l (announced_by k) (cycle_of k) s n p → IsFixedPass kit k s n p → IsFixedPass kit next t o p
 
 module _ {R W E M : Type 0} (kit : Kit R W E M) (by : Stepping R W E M) (l : Sizes) (words : List ℕ) where
   -- the word that its step finds
@@ -60,6 +72,9 @@ module _ {R W E M : Type 0} (kit : Kit R W E M) (by : Stepping R W E M) (l : Siz
     pub search : SearchStands l (cycle_of k) s k
     pub awaited : AreEarlier (length s.history) counts
     pub sealed_are : AreSealed s sealed
+    -- the root words of passes that have retired hold
+    pub rooted : (pass : ℕ) → IsPass l pass → n.ack pass ≡ retired_word → (reg : ℕ) → reg < 8 → On (Holds s) (n.root pass reg)
+    pub fixed : CollectorFixed plan k s n
 
   -- the step makes this of the space and the notices
   pub record CollectorGoes (s : Space) (n : Notices) (sealed : List Sealed) (k : CollectorMachine M) : Type 0 where
@@ -80,6 +95,7 @@ module _ {R W E M : Type 0} (kit : Kit R W E M) (by : Stepping R W E M) (l : Siz
     pub search : SearchStands l (cycle_of (next_of k)) space (next_of k)
     pub sealed_are : AreSealed space (sealed ++ sealed_now kit by k s.history (found_in kit by l words k))
     pub seals : KeepsSeal k s space (length (sealed_now kit by k s.history (found_in kit by l words k)))
+    pub fixed : GoesFixed kit l plan k (next_of k) s space n notices
     pub heads : (a : ℕ) → (header_in space a ≡ header_in s a) ⊎ AllowedChange kit.kind (header_in s a) (header_in space a)
 
 module _ {R W E M : Type 0} (kit : Kit R W E M) (by : Stepping R W E M) (l : Sizes) (words : List ℕ) where

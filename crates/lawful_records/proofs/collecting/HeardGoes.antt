@@ -21,12 +21,18 @@ use Rattle.lawful_records.specs.Collectors.{announced_of, drawn_of, passed_of}
 use Rattle.lawful_records.specs.Cycling.{announced_by, cycle_of}
 use Rattle.lawful_records.specs.Handshakes.{IsCollector}
 use Rattle.lawful_records.specs.JobStands.{stand_of, StandsAt, IsMovedBy}
-use Rattle.lawful_records.specs.LawfulRecords.{AreSealed, IsPassRecord}
+use Rattle.handshakes.specs.Polling.{IsRunning}
+use Rattle.handshakes.specs.declared.poll.PollMachine.{PollMachine}
+use Rattle.barriers.specs.declared.pass.PassMachine.TheVariants as machine
+use Rattle.barriers.specs.States.{On}
+use Rattle.lawful_records.specs.Fixing.{Names, IsFixedBy, AreRootsFixed, FixStands, IsFixedPass, IsOfJob}
+use Rattle.lawful_records.specs.LawfulRecords.{AreRooted, AreSealed, IsPassRecord}
 use Rattle.lawful_records.specs.Searches.{SearchStands}
 use Rattle.lawful_records.specs.PassTurns.{IsAnnounced}
 use Rattle.lawful_records.specs.Records.{view_by, number_of, acked_of, mark_of, side_of}
 use Rattle.lawful_records.specs.Turns.{collector_asks, sealed_now}
-use Rattle.lawful_records.proofs.frames.Hearing.{Hears, pass_hears}
+use Rattle.lawful_records.proofs.fixing.Frames.{following_hears, polled_in, fixed_leaves}
+use Rattle.lawful_records.proofs.frames.Hearing.{Polls, Hears, polls_acked, pass_hears}
 use Rattle.lawful_records.proofs.turns.RetireTurns.{stance_retired}
 use Rattle.lawful_records.proofs.collecting.Announcing.{announced_is}
 use Rattle.lawful_records.proofs.collecting.Answering.{answers_on, marked_on, waits_on}
@@ -45,7 +51,9 @@ module _ {R W E M : Type 0} (kit : Kit R W E M) (by : Stepping R W E M) (laws : 
     pub phase : notices.phase ≡ (let a = announced_by (next_of kit by l words plan k) in a.word)
     pub drawn : notices.mark ≡ drawn_of (next_of kit by l words plan k)
     pub acks : (pass : ℕ) → notices.ack pass ≡ n.ack pass
-    pub roots : (pass reg : ℕ) → notices.root pass reg ≡ n.root pass reg
+    -- only the root words of passes that have retired may be fixed
+    pub roots : (pass reg : ℕ) → n.ack pass ≢ retired_word → notices.root pass reg ≡ n.root pass reg
+    pub rooted : (p : PassKnown R W E) → AreRooted s n (number_of p) p.pass.registers → AreRooted s notices (number_of p) p.pass.registers
     pub advances : Advances l n.ack (announced_by k) (announced_by (next_of kit by l words plan k))
     -- before all have answered nothing is drawn, and the announced word is another than the one before
     pub marks : passed_of k < l.passes → notices.mark ≡ n.mark
@@ -56,6 +64,11 @@ module _ {R W E M : Type 0} (kit : Kit R W E M) (by : Stepping R W E M) (laws : 
     pub still : (a : ℕ) → IsMovedBy k a → ⊥
     pub stands_then : StandsAt kit l (cycle_of (next_of kit by l words plan k)) s (stand_of plan (next_of kit by l words plan k))
     pub search_then : SearchStands l (cycle_of (next_of kit by l words plan k)) s (next_of kit by l words plan k)
+    -- what is fixed as it has it then, and what it leaves of what is fixed of passes
+    pub aside : (a : ℕ) → IsOfJob (stand_of plan k) a → IsOfJob (stand_of plan (next_of kit by l words plan k)) a
+    pub fixed : FixStands (next_of kit by l words plan k) s notices
+    pub lets : (acked : ℕ) → (l.passes ≤ passed_of k → acked ≡ announced_of k) → IsFixedBy (next_of kit by l words plan k) acked → IsFixedBy k acked
+    pub roots_fixed : (p : PassKnown R W E) → IsPassRecord kit l (announced_by k) (cycle_of k) s n p → IsFixedPass kit k s n p → acked_of p ≡ retired_word → AreRootsFixed (next_of kit by l words plan k) (number_of p) → (i : ℕ) → i < 8 → On (Names s) (notices.root (number_of p) i)
     pub none_sealed : sealed ++ sealed_now kit by k s.history (found_in kit by l words k) ≡ sealed
 
   module _ (k : CollectorMachine M) (stands : CollectorStands kit by l words plan s n counts sealed k) (has : HasHeard k) where
@@ -109,7 +122,8 @@ module _ {R W E M : Type 0} (kit : Kit R W E M) (by : Stepping R W E M) (laws : 
       hears : Hears kit (announced_by k) (announced_by next) (cycle_of k) (cycle_of next) s n has.notices p
       hears = record {
         ack = has.acks (number_of p);
-        roots = has.roots (number_of p);
+        roots = λ runs reg. has.roots (number_of p) reg (λ gone. runs (sym own.answering.acked ∙ gone));
+        rooted = has.rooted p;
         side = pass_goes.side_on own.side;
         call = pass_goes.call_on;
         answers = answers;
@@ -117,6 +131,20 @@ module _ {R W E M : Type 0} (kit : Kit R W E M) (by : Stepping R W E M) (laws : 
         shaken = shaken;
         waits = waits;
       }
+
+      -- a poll hears of nothing new
+      polls_on : (m : PollMachine) → p.pass.machine ≡ machine.Poll m → IsRunning m → (let view = p.pass.view in view.acked) ≢ n.phase → (has.notices.phase ≡ n.phase) × (has.notices.mark ≡ n.mark)
+      polls_on m e running apart =
+          let runs = polls_acked kit p.pass.view p.pass.machine (subst Polls (sym e) running) own.answering.retired in
+          waits runs.0 (λ same. apart (sym runs.1 ∙ same))
+
+      heard_fixed : IsFixedPass kit k s n p → IsFixedPass kit next s has.notices p
+      heard_fixed is = fixed_leaves kit k next s s n has.notices p (record {
+        names = λ runs by birth at names. names;
+        lets = λ runs by. has.lets acked (λ all. (answered_all l (announced_by k) (number_of p) acked (mark_of p) own.number all own.answering.marked runs).0) by;
+        polls = λ m e following. following_hears s (polled_in kit p n) has.notices.phase has.notices.mark m (polls_on m e) following;
+        roots = has.roots_fixed p own is;
+      }) own.answering.retired is
 
       heard_pass : IsPassRecord kit l (announced_by next) (cycle_of next) s has.notices p
       heard_pass = pass_hears kit l (announced_by k) (announced_by next) (cycle_of k) (cycle_of next) s n has.notices p hears own
@@ -140,5 +168,9 @@ module _ {R W E M : Type 0} (kit : Kit R W E M) (by : Stepping R W E M) (laws : 
       search = has.search_then;
       sealed_are = subst (AreSealed s) (sym has.none_sealed) stands.sealed_are;
       seals = keeps_idle s s k (length (sealed_now kit by k s.history (found_in kit by l words k))) has.still;
+      fixed = record {
+        own = record { aside = λ a is. has.aside a (stands.fixed.aside a is); stands = has.fixed };
+        passes = λ p own is. heard_fixed p own is;
+      };
       heads = λ a. inl refl;
     }

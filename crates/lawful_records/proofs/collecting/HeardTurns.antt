@@ -1,6 +1,7 @@
 -- The collector announces, or looks at an acknowledgement.
 use Rattle.std.specs.Prelude.{Bool, true, false, nat_lt, if◌then◌else◌}
-use Rattle.std.proofs.Common.{inl, inr, ◌≡◌, ◌≢◌, ℕ, ◌+◌, List, refl, sym, ap, ◌∙◌, subst, arith, Option, None}
+use Rattle.std.proofs.lemmas.Bool.{cases_eq}
+use Rattle.std.proofs.Common.{inl, inr, ◌≡◌, ◌≢◌, ℕ, ◌+◌, ◌-◌, ◌≤◌, ◌⊎◌, List, refl, sym, ap, ◌∙◌, subst, arith, Option, None}
 use Rattle.std.proofs.lemmas.List.{append-nil}
 use Rattle.call_steps.specs.declared.step.Step.{Step}
 use Rattle.call_steps.specs.declared.step.Step.TheVariants.{Load, Store, Ended}
@@ -32,12 +33,17 @@ use Rattle.lawful_records.specs.declared.records.Sealed.{Sealed}
 use Rattle.lawful_records.specs.Collectors.{look, drawn_of, word_of, round_of, mark_word, mark_at, is_refused, stage_before, jobs_of, behind_by}
 use Rattle.lawful_records.specs.Cycling.{announced_by, clear_by, cycle_of, told_by, told_until, told_awaiting, clear_until, clear_awaiting}
 use Rattle.lawful_records.specs.Handshakes.{IsStage}
-use Rattle.lawful_records.specs.JobStands.{stand_of, StandsAt}
+use Rattle.handshakes.specs.PhaseWords.{retired_word}
+use Rattle.lawful_records.specs.Fixing.{fixed_at, is_fixed, fixed_passes, IsFixedBy, AreRootsFixed, FixStands, IsOfJob}
+use Rattle.lawful_records.specs.JobStands.{stand_at, stand_of, StandsAt}
+use Rattle.lawful_records.specs.Records.{number_of, acked_of}
+use Rattle.lawful_records.proofs.fixing.Looks.{fixed_behind, few_awaited, fixed_awaited}
+use Rattle.lawful_records.proofs.fixing.Objects.{objects_behind}
 use Rattle.lawful_records.specs.Searches.{SearchStands}
 use Rattle.lawful_records.specs.Turns.{collector_fed}
 use Rattle.lawful_records.proofs.CollectorLaws.{runs}
 use Rattle.lawful_records.proofs.frames.SpareStays.{phase_low, ack_low, spare_low}
-use Rattle.lawful_records.proofs.collecting.Advancing.{looked_says, looked_leaves, advances_look}
+use Rattle.lawful_records.proofs.collecting.Advancing.{awaited_says, awaited_leaves, looked_says, looked_leaves, advances_look}
 use Rattle.lawful_records.proofs.collecting.Fitting.{clear_late}
 use Rattle.lawful_records.proofs.collecting.Goes.{found_in, next_of, CollectorStands, CollectorGoes}
 use Rattle.lawful_records.proofs.collecting.HeardGoes.{HasHeard, hearing_goes}
@@ -101,7 +107,7 @@ module _ {R W E M : Type 0} (kit : Kit R W E M) (by : Stepping R W E M) (laws : 
     abbrev Next : CollectorMachine M → Type 0
     Next k = StandsAt kit l (cycle_of k) s (stand_of plan k) × SearchStands l (cycle_of k) s k
 
-    stand_awaited : (more : Bool) → Next (if more then look st (pass + 1) else behind_by kit plan st.announcement st)
+    pub stand_awaited : (more : Bool) → Next (if more then look st (pass + 1) else behind_by kit plan st.announcement st)
     stand_awaited true = (stand_on kit l s (cycle_of looking) (cycle_of {M = M} (look st (pass + 1))) (is_clover st.kind) st.announcement (jobs_of plan st) stands.jobs, tt)
     stand_awaited false = (
       stand_behind kit by laws l stands.layout plan stands.planned s stands.rows (forward_to kit.protocol (cycle_of looking) s stands.objects) (cycle_of looking) stands.cycles st stage st.announcement refl stands.jobs,
@@ -111,8 +117,77 @@ module _ {R W E M : Type 0} (kit : Kit R W E M) (by : Stepping R W E M) (laws : 
     stand_looked : Next next
     stand_looked = elim (look_tells kit plan by.move_fed st pass (found_in kit by l words looking)) [
       | inl on ↦ subst Next (sym on.1) (stand_awaited (nat_lt pass st.layout.passes))
-      | inr again ↦ subst Next (sym again) (stands.jobs, tt)
+      | inr rest ↦ elim rest [ inl again ↦ subst Next (sym again) (stands.jobs, tt) | inr roots ↦ subst Next (sym roots.2) (tt, tt) ]
     ]
+
+    -- ---- what is fixed
+
+    aside_awaited : (more : Bool) (x : ℕ) → IsOfJob (stand_of {M = M} plan looking) x → IsOfJob (stand_of plan (if more then look st (pass + 1) else behind_by kit plan st.announcement st)) x
+    aside_awaited true x is = is
+    aside_awaited false x is = objects_behind kit plan st st.announcement x is
+
+    aside_looked : (x : ℕ) → IsOfJob (stand_of {M = M} plan looking) x → IsOfJob (stand_of plan next) x
+    aside_looked x is = elim (look_tells kit plan by.move_fed st pass (found_in kit by l words looking)) [
+      | inl on ↦ subst (λ (k : CollectorMachine M). IsOfJob (stand_of plan k) x) (sym on.1) (aside_awaited (nat_lt pass st.layout.passes) x is)
+      | inr rest ↦ elim rest [
+        | inl again ↦ subst (λ (k : CollectorMachine M). IsOfJob (stand_of plan k) x) (sym again) is
+        | inr roots ↦ absurd (subst (λ (a : Announcement). IsOfJob {M = M} (stand_at (is_clover st.kind) a (jobs_of plan st)) x) roots.1 is)
+      ]
+    ]
+
+    pub fixed_awaits : (o : Notices) (more : Bool) → FixStands (if more then look st (pass + 1) else behind_by kit plan st.announcement st) s o
+    fixed_awaits o true = stands.fixed.stands
+    fixed_awaits o false = fixed_behind kit plan st l s o stands.rows stands.layout stage.layout st.announcement stands.fixed.stands
+
+    fixed_looked : FixStands next s n
+    fixed_looked = elim (look_tells kit plan by.move_fed st pass (found_in kit by l words looking)) [
+      | inl on ↦ subst (λ (k : CollectorMachine M). FixStands k s n) (sym on.1) (fixed_awaits n (nat_lt pass st.layout.passes))
+      | inr rest ↦ elim rest [
+        | inl again ↦ subst (λ (k : CollectorMachine M). FixStands k s n) (sym again) stands.fixed.stands
+        | inr roots ↦ subst (λ (k : CollectorMachine M). FixStands k s n) (sym roots.2) (record { retired = sym found_ack ∙ roots.0; below = λ i less. absurd (omega (arith, less)); hand = tt })
+      ]
+    ]
+
+    fixed_then : is_fixed next ≡ true → fixed_at st.announcement ≡ true
+    fixed_then fixed = elim (look_tells kit plan by.move_fed st pass (found_in kit by l words looking)) [
+      | inl on ↦ fixed_awaited kit plan st pass (nat_lt pass st.layout.passes) (subst (λ (k : CollectorMachine M). is_fixed k ≡ true) on.1 fixed)
+      | inr rest ↦ elim rest [
+        | inl again ↦ subst (λ (k : CollectorMachine M). is_fixed k ≡ true) again fixed
+        | inr roots ↦ absurd (let gone : false ≡ true = subst (λ (k : CollectorMachine M). is_fixed k ≡ true) roots.2 fixed in cc gone)
+      ]
+    ]
+
+    lets_looked : (acked : ℕ) → IsFixedBy next acked → IsFixedBy {M = M} looking acked
+    lets_looked acked (inl fixed) = inl (fixed_then fixed)
+    lets_looked acked (inr fix) = inr fix
+
+    -- how many root words are fixed: those of passes before this one, and then those of this one if it has not retired
+    few_then : (number acked : ℕ) → n.ack number ≡ acked → acked ≡ retired_word → number ≤ fixed_passes next → (number ≤ pass - 1) ⊎ (st.announcement ≢ Fix)
+    few_then number acked is retired few = elim (look_tells kit plan by.move_fed st pass (found_in kit by l words looking)) [
+      | inl on ↦ elim (cases_eq number pass) [
+        | inl here ↦ inr (on.2 (found_ack ∙ (ap n.ack (sym here) ∙ (is ∙ retired))))
+        | inr other ↦
+            let most = few_awaited kit plan st pass (nat_lt pass st.layout.passes) refl in
+            let below : number ≤ fixed_passes (if nat_lt pass st.layout.passes then look st (pass + 1) else behind_by kit plan st.announcement st) = subst (λ (k : CollectorMachine M). number ≤ fixed_passes k) on.1 few in
+            inl (omega (arith, most, below, other))
+      ]
+      | inr rest ↦ elim rest [
+        | inl again ↦ inl (subst (λ (k : CollectorMachine M). number ≤ fixed_passes k) again few)
+        | inr roots ↦ inl (subst (λ (k : CollectorMachine M). number ≤ fixed_passes k) roots.2 few)
+      ]
+    ]
+
+    fixed_or_fix : (a : Announcement) → a ≢ Fix → fixed_at a ≡ true
+    fixed_or_fix Fix other = absurd (other refl)
+    fixed_or_fix Mark other = refl
+    fixed_or_fix Confirm other = refl
+    fixed_or_fix Search other = refl
+    fixed_or_fix Copy other = refl
+    fixed_or_fix Free other = refl
+
+    roots_looked : (number acked : ℕ) → n.ack number ≡ acked → acked ≡ retired_word → AreRootsFixed next number → AreRootsFixed {M = M} looking number
+    roots_looked number acked is retired (inl fixed) = inl (fixed_then fixed)
+    roots_looked number acked is retired (inr few) = elim (few_then number acked is retired few) [ inl below ↦ inr below | inr other ↦ inl (fixed_or_fix st.announcement other) ]
 
     -- the cycle is the same, but who has acknowledged the last Copy word
     leaves : (drawn_of next ≡ mark_word st) × (clear_by next ≡ clear_awaiting st.announcement st.marks.clear)
@@ -139,6 +214,29 @@ module _ {R W E M : Type 0} (kit : Kit R W E M) (by : Stepping R W E M) (laws : 
     reached_goes : (side : Side) → Fits kit laws.table laws.cycle s reached side → PassGoes kit laws.table laws.cycle s (cycle_of looking) reached side
     reached_goes side fits = reach_goes kit laws.table laws.cycle s stands.resting (stance_at (word_of st)) (told_awaiting st.announcement (is_refused st)) (mark_in (mark_word st)) (clear_awaiting st.announcement st.marks.clear) (told_by next) stands.objects side fits
 
+    -- ---- what comes once the pass has answered
+
+    abbrev pub Then : Bool → CollectorMachine M
+    Then more = if more then look st (pass + 1) else behind_by kit plan st.announcement st
+
+    pub then_word : (more : Bool) → (let a = announced_by (Then more) in a.word) ≡ word_of st
+    then_word more = ap (λ (a : Announced). a.word) (awaited_says kit plan l kit.kind stands.cycles st stage pass more 0)
+
+    pub then_leaves : (more : Bool) → (drawn_of (Then more) ≡ mark_word st) × (clear_by (Then more) ≡ clear_awaiting st.announcement st.marks.clear)
+    then_leaves more = awaited_leaves kit plan l kit.kind stands.cycles stands.few st stage pass more
+
+    then_cycle : (more : Bool) → record (cycle_of looking) { told = told_by (Then more) } ≡ cycle_of (Then more)
+    then_cycle more = let leaves_it = then_leaves more in rw (then_word more, leaves_it.0, leaves_it.1) refl
+
+    pub then_objects : (more : Bool) → AreObjects kit.protocol (cycle_of (Then more)) s
+    then_objects more = subst (λ (c : Cycle). AreObjects kit.protocol c s) (then_cycle more)
+        (reach_objects kit laws.table laws.cycle s stands.resting (stance_at (word_of st)) (told_awaiting st.announcement (is_refused st)) (mark_in (mark_word st)) (clear_awaiting st.announcement st.marks.clear) (told_by (Then more)) stands.objects)
+
+    pub then_goes : (more : Bool) (side : Side) → Fits kit laws.table laws.cycle s (cycle_of (Then more)) side → PassGoes kit laws.table laws.cycle s (cycle_of looking) (cycle_of (Then more)) side
+    then_goes more side fits = subst (λ (c : Cycle). PassGoes kit laws.table laws.cycle s (cycle_of looking) c side) (then_cycle more)
+        (reach_goes kit laws.table laws.cycle s stands.resting (stance_at (word_of st)) (told_awaiting st.announcement (is_refused st)) (mark_in (mark_word st)) (clear_awaiting st.announcement st.marks.clear) (told_by (Then more)) stands.objects
+        side (subst (λ (c : Cycle). Fits kit laws.table laws.cycle s c side) (sym (then_cycle more)) fits))
+
     heard_look : Heard looking
     heard_look = record {
       notices = n;
@@ -147,7 +245,8 @@ module _ {R W E M : Type 0} (kit : Kit R W E M) (by : Stepping R W E M) (laws : 
       phase = stands.announced ∙ sym same_word;
       drawn = stands.drawn ∙ sym leaves.0;
       acks = λ p. refl;
-      roots = λ p reg. refl;
+      roots = λ p reg runs. refl;
+      rooted = λ p is. is;
       advances = subst (λ (found : ℕ). Advances l n.ack (announced_by looking) (announced_by (collector_fed kit by plan looking found))) (sym found_ack) (advances_look kit plan l kit.kind stands.cycles st stage by.move_fed pass n.ack there);
       marks = λ waits. refl;
       differ = λ waits. (differs st (stage_said l kit.kind stands.cycles stands.few st stage) (before_said l kit.kind stands.cycles stands.few st stage), (let b = stage_before st in runs b.announcement b.cycle (round_of b)));
@@ -156,6 +255,10 @@ module _ {R W E M : Type 0} (kit : Kit R W E M) (by : Stepping R W E M) (laws : 
       still = λ a moved. moved;
       stands_then = stand_looked.0;
       search_then = stand_looked.1;
+      aside = aside_looked;
+      fixed = fixed_looked;
+      lets = λ acked all by_next. lets_looked acked by_next;
+      roots_fixed = λ p own is retired roots. is.roots retired (roots_looked (number_of p) (acked_of p) own.answering.acked retired roots);
       none_sealed = append-nil sealed;
     }
 
@@ -195,7 +298,8 @@ module _ {R W E M : Type 0} (kit : Kit R W E M) (by : Stepping R W E M) (laws : 
       phase = refl;
       drawn = stands.drawn;
       acks = λ p. refl;
-      roots = λ p reg. refl;
+      roots = λ p reg runs. refl;
+      rooted = λ p is. is;
       advances = Announces (word_of st) (mark_at st) (omega (arith, passes));
       marks = λ waits. refl;
       differ = λ waits. absurd (omega (arith, passes, waits));
@@ -206,6 +310,10 @@ module _ {R W E M : Type 0} (kit : Kit R W E M) (by : Stepping R W E M) (laws : 
       still = λ a moved. moved;
       stands_then = stand_on kit l s (cycle_of {M = M} saying) (cycle_of {M = M} (look st 1)) (is_clover st.kind) st.announcement (jobs_of plan st) stands.jobs;
       search_then = tt;
+      aside = λ a is. is;
+      fixed = stands.fixed.stands;
+      lets = λ acked all by_next. by_next;
+      roots_fixed = λ p own is retired roots. is.roots retired (elim roots [ inl fixed ↦ inl fixed | inr few ↦ absurd (let there = own.number in omega (arith, few, there.0)) ]);
       none_sealed = append-nil sealed;
     }
 

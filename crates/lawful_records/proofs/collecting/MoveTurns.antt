@@ -1,7 +1,17 @@
 -- The collector takes a step of a move.
 use Rattle.std.specs.Prelude.{drop, if◌then◌else◌}
 use Rattle.std.specs.List.{All, slice_get}
-use Rattle.std.proofs.Common.{inl, inr, ◌≡◌, ℕ, List, ◌++◌, Option, Some, None, refl, sym, ap, ◌∙◌, subst, length, ◌+◌, ◌≤◌}
+use Rattle.std.proofs.Common.{inl, inr, ◌≡◌, ◌≢◌, ◌⊎◌, ℕ, List, ◌++◌, Option, Some, None, false, true, refl, sym, ap, ◌∙◌, subst, length, arith, ◌+◌, ◌≤◌}
+use Rattle.std.proofs.lemmas.Bool.{cases_eq}
+use Rattle.handshakes.specs.PhaseWords.{retired_word}
+use Rattle.barriers.specs.Stances.{Fix as Fix_stance, stance_at}
+use Rattle.lawful_records.specs.Fixing.{fixed_at, is_fixed, fixed_passes, FixStands, IsAside, IsObjectOf, AreJobsAside}
+use Rattle.lawful_records.specs.Records.{number_of, acked_of, mark_of}
+use Rattle.lawful_records.proofs.collecting.Shaken.{answered_all}
+use Rattle.lawful_records.proofs.collecting.Stages.{stance_word, before_said}
+use Rattle.lawful_records.proofs.fixing.MoveAside.{aside_back, aside_settled, copy_settled, before_stance}
+use Rattle.lawful_records.proofs.fixing.Objects.{next_objects}
+use Rattle.lawful_records.proofs.fixing.Turns.{unfixed_passes}
 use Rattle.call_steps.specs.declared.step.Step.{Step}
 use Rattle.call_steps.specs.Steps.{place_of}
 use Rattle.call_steps.specs.StepLaws.{reading}
@@ -14,11 +24,14 @@ use Rattle.barriers.specs.declared.ends.MoveEnd.{MoveEnd}
 use Rattle.barriers.specs.Cycles.{Cycle, IsMoving}
 use Rattle.barriers.specs.MoveSteps.{move_step}
 use Rattle.barriers.specs.MoveTurns.{MovesTo}
-use Rattle.barriers.specs.Spaces.{Space}
+use Rattle.barriers.specs.Spaces.{Space, here}
 use Rattle.barriers.specs.Says.{Notices}
 use Rattle.barriers.specs.Rows.{Rows}
 use Rattle.barriers.specs.Objects.{AreObjects, IsMove}
-use Rattle.barriers.specs.Moves.{Carried, Lays, job_of}
+use Rattle.barriers.specs.Moves.{Carried, Looks, Lays, Gives_up, job_of, field_of}
+use Rattle.barriers.specs.ProtocolLaws.{MayEnd}
+use Rattle.barriers.specs.States.{Kept}
+use Rattle.lawful_records.specs.declared.stage.Announcement.TheVariants.{Fix}
 use Rattle.barriers.specs.Kits.{Kit, Stepping, Laws}
 use Rattle.barriers.proofs.words.Headers.{home_live}
 use Rattle.lawful_records.specs.declared.awaited.Awaited.{Awaited}
@@ -27,7 +40,7 @@ use Rattle.lawful_records.specs.declared.collector.CollectorMachine.{CollectorMa
 use Rattle.lawful_records.specs.declared.collector.CollectorMachine.TheVariants as collector
 use Rattle.lawful_records.specs.declared.records.PassKnown.{PassKnown}
 use Rattle.lawful_records.specs.declared.records.Sealed.{Sealed}
-use Rattle.lawful_records.specs.Collectors.{move_at, moved_by}
+use Rattle.lawful_records.specs.Collectors.{stage_before, move_at, moved_by}
 use Rattle.lawful_records.specs.Cycling.{announced_by, cycle_of}
 use Rattle.lawful_records.specs.Jobs.{does_seal}
 use Rattle.lawful_records.specs.JobStands.{stand_of, AreUnmoved, IsWaiting, IsTarget, IsMovedBy, IsMover, IsMoverOf, StandsAt}
@@ -142,6 +155,84 @@ module _ {R W E M : Type 0} (kit : Kit R W E M) (by : Stepping R W E M) (laws : 
     | inr on ↦ absurd (cc on.0)
   ]
 
+  -- ---- what is fixed
+
+  fix : st.announcement ≡ Fix
+  fix = stands.collects.0.next_is
+
+  next_unfixed : (o : Option MoveJob) → is_fixed (move_at kit o st next) ≡ false
+  next_unfixed None = ap fixed_at fix
+  next_unfixed (Some j) = refl
+
+  unfixed : (x : Option MoveEnd) → is_fixed (moved_by kit plan st job next after x) ≡ false
+  unfixed None = refl
+  unfixed (Some end) = next_unfixed (slice_get plan.jobs next)
+
+  next_none : (o : Option MoveJob) → fixed_passes (move_at kit o st next) ≡ 0
+  next_none None = refl
+  next_none (Some j) = refl
+
+  none_fixed : (x : Option MoveEnd) → fixed_passes (moved_by kit plan st job next after x) ≡ 0
+  none_fixed None = refl
+  none_fixed (Some end) = next_none (slice_get plan.jobs next)
+
+  next_stands_fixed : (o : Option MoveJob) → FixStands (move_at kit o st next) space n
+  next_stands_fixed None = λ e. absurd (let gone : false ≡ true = sym (ap fixed_at fix) ∙ e in cc gone)
+  next_stands_fixed (Some j) = λ e. absurd (let gone : false ≡ true = e in cc gone)
+
+  unfixed_stands : (x : Option MoveEnd) → FixStands (moved_by kit plan st job next after x) space n
+  unfixed_stands None = λ e. absurd (let gone : false ≡ true = e in cc gone)
+  unfixed_stands (Some end) = next_stands_fixed (slice_get plan.jobs next)
+
+  -- no pass has acknowledged Fix
+  announced_stance : stance_at n.phase ≢ Fix_stance
+  announced_stance at_fix = before_stance st.announcement st fix (sym (stance_word (stage_before st) (before_said l kit.kind stands.cycles stands.few st stands.collects.0.stage)) ∙ (ap stance_at (sym stands.announced) ∙ at_fix))
+
+  pass_stance : (p : PassKnown R W E) → IsPassRecord kit l (announced_by moving) (cycle_of moving) s n p → acked_of p ≢ retired_word → stance_at (acked_of p) ≢ Fix_stance
+  pass_stance p own runs at_fix =
+      let passes : st.layout.passes ≡ l.passes = ap (λ (x : Sizes). x.passes) stands.collects.0.stage.layout in
+      let same = (answered_all l (announced_by moving) (number_of p) (acked_of p) (mark_of p) own.number (omega (arith, passes)) own.answering.marked runs).0 in
+      announced_stance (ap stance_at (stands.announced ∙ sym same) ∙ at_fix)
+
+  -- the object is on its way no longer than the move
+  aside_moving : (a : ℕ) → IsAside (space.state a) → (a ≡ job.from) ⊎ ((a ≡ job.to) ⊎ IsObjectOf rest a)
+  aside_moving a aside = elim (cases_eq a job.from) [
+    | inl at_from ↦ inl at_from
+    | inr apart ↦ elim (cases_eq a job.to) [
+      | inl at_to ↦ inr (inl at_to)
+      | inr other ↦ stands.fixed.aside a (aside_back s l (cycle_of moving).mark (kit.moves m) a (λ j e.
+          let same : j ≡ job = (let both : Some j ≡ Some job = sym e ∙ mover.job in cc both) in
+          (λ from. apart (from ∙ ap (λ (i : MoveJob). i.from) same), λ to. other (to ∙ ap (λ (i : MoveJob). i.to) same))) aside)
+    ]
+  ]
+
+  ends_at : job_of carried ≡ None → MayEnd (kit.moves m) (s.state job.from)
+  ends_at none =
+      let at_its = laws.table.moves.heads (cycle_of moving) (kit.moves m) (here s job.from 0) (here s job.from (field_of (kit.moves m))) (record { state = refl; len = refl; to = refl; wide = refl; address = refl; seal = refl }) mover.move.head in
+      laws.table.moves.ends (cycle_of moving) (kit.moves m) job (here s job.from (field_of (kit.moves m))) mover.job at_its none
+
+  looks_not : (i : MoveJob) → kit.moves m ≡ Looks i → ⊥
+  looks_not i e = laws.movable.looks mover.moves (cycle_of moving) i (here s job.from 0) (subst (λ y. (let P = kit.protocol in P.MoveHead (cycle_of moving) y (here s job.from 0))) e mover.move.head)
+
+  gives_kept : (i : MoveJob) → kit.moves m ≡ Gives_up i → s.state job.from ≡ Kept
+  gives_kept i e = laws.table.moves.gives_up (cycle_of moving) i (here s job.from 0) (subst (λ y. (let P = kit.protocol in P.MoveHead (cycle_of moving) y (here s job.from 0))) e mover.move.head)
+
+  settled_aside : job_of carried ≡ None → (a : ℕ) → IsAside (space.state a) → IsObjectOf rest a
+  settled_aside none a aside = elim (aside_moving a aside) [
+    | inl at_from ↦ absurd (aside_settled s l (cycle_of moving).mark (kit.moves m) job mover.job (ends_at none) looks_not gives_kept (subst (λ b. IsAside (space.state b)) at_from aside))
+    | inr more ↦ elim more [
+      | inl at_to ↦ absurd (copy_settled s l (cycle_of moving).mark (kit.moves m) job mover.job (ends_at none) looks_not (subst (λ b. IsAside (space.state b)) at_to aside))
+      | inr later ↦ later
+    ]
+  ]
+
+  aside_then : (x : Option MoveEnd) → kit.move_ended after ≡ x → AreJobsAside plan (moved_by kit plan st job next after x) space
+  aside_then None e a aside = aside_moving a aside
+  aside_then (Some end) e a aside = elim (ends_as kit by laws l words plan s n counts sealed st job next m stands (Some end) e) [
+    | inl idle ↦ next_objects kit plan st next (slice_get plan.jobs next) refl a (settled_aside idle a aside)
+    | inr on ↦ absurd (cc on.0)
+  ]
+
   -- ---- the seals
 
   abbrev now : Step → List Sealed
@@ -192,5 +283,9 @@ module _ {R W E M : Type 0} (kit : Kit R W E M) (by : Stepping R W E M) (laws : 
     search = none_sought st l (cycle_of on) space on (before x);
     sealed_are = sealed_then.0;
     seals = sealed_then.1;
+    fixed = record {
+      own = record { aside = aside_then x refl; stands = unfixed_stands x };
+      passes = λ p own is. unfixed_passes kit l moving on s space n (unfixed x) (none_fixed x) announced_stance p (pass_stance p own) own is;
+    };
     heads = moved_heads kit by laws l words plan s n counts sealed st job next m stands;
   }

@@ -145,7 +145,7 @@ module _ {R W E M : Type 0} (kit : Kit R W E M) (by : Stepping R W E M) (laws : 
 
   -- ---- the words
 
-  same_job : (i : MoveJob) → job_of C ≡ Some i → i ≡ job
+  pub same_job : (i : MoveJob) → job_of C ≡ Some i → i ≡ job
   same_job i e = let both : Some i ≡ Some job = sym e ∙ is.job in cc both
 
   -- before its copy is there the words of its fields are in the original

@@ -46,7 +46,7 @@ pub last_place : (l : Sizes) → first_word l (regions_of l) ≡ wide_at l
 last_place l = omega arith
 
 -- a region whose word is 0 is Free
-free_is : (x : RegionWord) → word_of_region x ≡ 0 → x ≡ regions.Free
+pub free_is : (x : RegionWord) → word_of_region x ≡ 0 → x ≡ regions.Free
 unfolding word_of_region
 free_is regions.Free is = refl
 free_is (regions.Taken pass) is = absurd (omega (arith, is))
@@ -58,17 +58,17 @@ free_is regions.Target is = absurd (omega (arith, is))
 absent_fits : IsHeader absent
 absent_fits = record { len = omega arith; birth = omega arith; target = omega arith; state = (refl, refl, refl, refl) }
 
-zero_absent : header_at 0 ≡ absent
+pub zero_absent : header_at 0 ≡ absent
 zero_absent = ap header_at (sym word_of_header-absent) ∙ header_at-word_of_header absent absent_fits
 
 -- only a dead object's header says Dead, and that of one that is there does not say Absent
 dead_is : (x : State) (colour : _) (len birth : ℕ) → (let h = header_by x colour len birth in h.state) ≡ states.Dead → IsHome x → ⊥
 dead_is x colour len birth is home = grind (arith, is, home)
 
-absent_is : (x : State) (colour : _) (len birth : ℕ) → (let h = header_by x colour len birth in h.state) ≡ states.Absent → x ≢ Absent → ⊥
+pub absent_is : (x : State) (colour : _) (len birth : ℕ) → (let h = header_by x colour len birth in h.state) ≡ states.Absent → x ≢ Absent → ⊥
 absent_is x colour len birth is there = grind (arith, is, there)
 
-len_is : (x : State) (colour : _) (len birth : ℕ) → x ≢ Absent → (let h = header_by x colour len birth in h.len) ≡ len
+pub len_is : (x : State) (colour : _) (len birth : ℕ) → x ≢ Absent → (let h = header_by x colour len birth in h.len) ≡ len
 len_is x colour len birth there = grind (arith, there)
 
 -- ---- a word other than the candidate

@@ -1,11 +1,13 @@
 -- A collector plays its cycles: it stays a collector of these cycles after each step, whatever word that finds.
 use Rattle.std.specs.Prelude.{nat_lt, min, if◌then◌else◌}
 use Rattle.std.specs.List.{slice_get}
-use Rattle.std.proofs.Common.{◌≡◌, ℕ, ◌+◌, ◌-◌, ◌^◌, ◌<◌, ◌≤◌, ◌⊎◌, ◌==◌, Bool, true, false, length, Option, Some, None, refl, sym, ap, ◌∙◌, subst, arith, inl, inr}
+use Rattle.std.proofs.Common.{◌≡◌, ◌≢◌, ℕ, ◌+◌, ◌-◌, ◌^◌, ◌<◌, ◌≤◌, ◌⊎◌, ◌==◌, Bool, true, false, length, Option, Some, None, refl, sym, ap, ◌∙◌, subst, arith, inl, inr}
 use Rattle.std.proofs.lemmas.Bool.Decides.{nat_tests}
 use Rattle.std.proofs.lemmas.Bool.{eqb-true}
 use Rattle.std.proofs.lemmas.Option.{slice_get_within}
-use Rattle.heap_words.specs.Layouts.{Sizes, IsLayout, IsPass, ack_at}
+use Rattle.call_steps.specs.declared.step.Step.TheVariants.{Ended}
+use Rattle.heap_words.specs.Layouts.{Sizes, IsLayout, IsPass, ack_at, root_at}
+use Rattle.heap_words.specs.declared.limits.TheConstants.{REGISTERS}
 use Rattle.object_headers.specs.declared.change.Kind.{Kind}
 use Rattle.object_headers.specs.Changes.{is_clover}
 use Rattle.handshakes.specs.declared.answer.AwaitEnd.TheVariants.{Answered, Retired, NotYet}
@@ -18,6 +20,15 @@ use Rattle.mark_search.specs.declared.seek.SeekMarkMachine.{SeekMarkMachine}
 use Rattle.mark_search.specs.Seeks as seeks
 use Rattle.space_reclaim.specs.declared.move_job.MoveJob.{MoveJob}
 use Rattle.space_reclaim.specs.Plans.{Planned}
+use Rattle.reference_fix.specs.declared.root_fix.RootFixMachine.{RootFixMachine}
+use Rattle.reference_fix.specs.declared.fix_walk.FixWalkMachine.{FixWalkMachine}
+use Rattle.reference_fix.specs.RootFixes as roots
+use Rattle.reference_fix.specs.RootFixes.{IsRootFixOf}
+use Rattle.reference_fix.specs.FixWalks as walks
+use Rattle.reference_fix.specs.FixWalks.{area_of}
+use Rattle.reference_fix.specs.FixWalkRuns.{Walks}
+use Rattle.reference_fix.proofs.FixWalks.{walks_begun, walk_steps, walk_on}
+use Rattle.reference_fix.proofs.RootFixing.{root_on}
 use Rattle.barriers.specs.declared.ends.MoveEnd.{MoveEnd}
 use Rattle.barriers.specs.Kits.{Kit}
 use Rattle.lawful_records.specs.declared.stage.Announcement.{Announcement}
@@ -27,25 +38,42 @@ use Rattle.lawful_records.specs.declared.stage.Stage.{Stage}
 use Rattle.lawful_records.specs.declared.collector.CollectorMachine.{CollectorMachine}
 use Rattle.lawful_records.specs.declared.collector.CollectorMachine.TheVariants as collector
 use Rattle.lawful_records.specs.declared.stage.TheConstants.{SEARCHES}
-use Rattle.lawful_records.specs.Collectors.{word_of, mark_word, is_planned, searched, fed_of, look, looked, awaited, sought, tag_at, move_at, target_at, source_at, work_at, moves_at, behind_by, moved_by, stage_at_start, collector_of}
-use Rattle.lawful_records.specs.Handshakes.{HasDrawn, DrewBefore, IsMarked, IsStage, IsAwait, IsSearch, IsWork, work_before, IsIn, IsCollector}
+use Rattle.lawful_records.specs.Collectors.{word_of, round_of, mark_word, is_planned, pass_within, searched, fed_of, look, looked, awaited, retired_by, root_fix, rooted, walked, sought, tag_at, move_at, target_at, source_at, work_at, moves_at, behind_by, moved_by, stage_at_start, collector_of}
+use Rattle.lawful_records.specs.Handshakes.{HasDrawn, DrewBefore, IsMarked, IsStage, IsAwait, IsRooting, IsSearch, IsWork, work_before, IsIn, IsCollector}
 use Rattle.lawful_records.specs.Searches.{Seeks}
+use Rattle.lawful_records.proofs.CollectorLaws.{runs}
 use Rattle.lawful_records.proofs.collecting.Seeking.{seeks_begun, seeks_on}
+
+-- each pass of the layout is that with its number
+root_place : (l m : Sizes) (pass reg : ℕ) → m ≡ l → IsPass l pass → root_at m (pass_within m pass) reg ≡ root_at l pass reg
+root_place l m pass reg same there = let within : pass_within l pass ≡ pass = omega (arith, there.0, there.1) in ap (λ (x : Sizes). root_at x (pass_within x pass) reg) same ∙ ap (λ (p : ℕ). root_at l p reg) within
 
 -- ---- a look
 
 module _ {R W E M : Type 0} (kit : Kit R W E M) (plan : Planned) where
-  -- it goes on where it found the announced word or that of Retired, and else is the same again
-  look_tells_by : (s : Stage) (pass : ℕ) (m : AwaitMachine) (found : ℕ) (same ended : Bool) → (found == word_of s) ≡ same → (found == retired_word) ≡ ended →
-      (((found ≡ retired_word) ⊎ (found ≡ word_of s)) × (looked kit plan s pass m (Some (if same then Answered else (if ended then Retired else NotYet pass found))) ≡ awaited kit plan s pass))
-      ⊎ (looked kit plan s pass m (Some (if same then Answered else (if ended then Retired else NotYet pass found))) ≡ collector.Await s pass m)
-  look_tells_by s pass m found true ended is other = inl (inr (eqb-true found (word_of s) is), refl)
-  look_tells_by s pass m found false true is other = inl (inl (eqb-true found retired_word other), refl)
-  look_tells_by s pass m found false false is other = inr refl
+  -- It goes on where it found the announced word or that of Retired, and else is the same again; in the await of Fix the root words of a pass
+  -- that has retired come first.
+  abbrev pub LookTells : Stage → ℕ → ℕ → CollectorMachine M → Type 0
+  LookTells s pass found k =
+      (((found ≡ retired_word) ⊎ (found ≡ word_of s)) × (k ≡ awaited kit plan s pass) × (found ≡ retired_word → s.announcement ≢ Fix))
+      ⊎ ((k ≡ look s pass) ⊎ ((found ≡ retired_word) × (s.announcement ≡ Fix) × (k ≡ root_fix s pass 0)))
 
-  pub look_tells : (fed : M → ℕ → M) (s : Stage) (pass found : ℕ) →
-      (((found ≡ retired_word) ⊎ (found ≡ word_of s)) × (fed_of kit fed plan (look s pass) found ≡ awaited kit plan s pass)) ⊎ (fed_of kit fed plan (look s pass) found ≡ look s pass)
-  look_tells fed s pass found = look_tells_by s pass (await.Acknowledgement (ack_at pass) pass (word_of s)) found (found == word_of s) (found == retired_word) refl refl
+  retired_tells : (s : Stage) (pass found : ℕ) → found ≡ retired_word → (a : Announcement) → s.announcement ≡ a → LookTells s pass found (retired_by kit plan a s pass)
+  retired_tells s pass found is Fix e = inr (inr (is, e, refl))
+  retired_tells s pass found is Mark e = inl (inl is, refl, λ gone fix. cc (e, fix))
+  retired_tells s pass found is Confirm e = inl (inl is, refl, λ gone fix. cc (e, fix))
+  retired_tells s pass found is Search e = inl (inl is, refl, λ gone fix. cc (e, fix))
+  retired_tells s pass found is Copy e = inl (inl is, refl, λ gone fix. cc (e, fix))
+  retired_tells s pass found is Free e = inl (inl is, refl, λ gone fix. cc (e, fix))
+
+  look_tells_by : (s : Stage) (pass found : ℕ) (same ended : Bool) → (found == word_of s) ≡ same → (found == retired_word) ≡ ended
+      → LookTells s pass found (looked kit plan s pass (await.Acknowledgement (ack_at pass) pass (word_of s)) (Some (if same then Answered else (if ended then Retired else NotYet pass found))))
+  look_tells_by s pass found true ended is other = inl (inr (eqb-true found (word_of s) is), refl, λ gone. absurd (runs s.announcement s.cycle (round_of s) (sym (eqb-true found (word_of s) is) ∙ gone)))
+  look_tells_by s pass found false true is other = retired_tells s pass found (eqb-true found retired_word other) s.announcement refl
+  look_tells_by s pass found false false is other = inr (inl refl)
+
+  pub look_tells : (fed : M → ℕ → M) (s : Stage) (pass found : ℕ) → LookTells s pass found (fed_of kit fed plan (look s pass) found)
+  look_tells fed s pass found = look_tells_by s pass found (found == word_of s) (found == retired_word) refl refl
 
 -- ---- what was drawn, from one announcement to the next
 
@@ -57,7 +85,7 @@ marked_fix : (clover : Bool) (cycle : ℕ) (m : Marks) → IsMarked clover Copy 
 marked_fix true cycle m is = (is.0, λ unclear. absurd (let no : true ≡ false = sym is.1 ∙ unclear in cc))
 marked_fix false cycle m is = is
 
-marked_free : (clover : Bool) (cycle : ℕ) (m : Marks) → IsMarked clover Fix cycle m → IsMarked clover Free cycle m
+pub marked_free : (clover : Bool) (cycle : ℕ) (m : Marks) → IsMarked clover Fix cycle m → IsMarked clover Free cycle m
 marked_free true cycle m is = is.0
 marked_free false cycle m is = is
 
@@ -210,10 +238,10 @@ module _ {R W E M : Type 0} (kit : Kit R W E M) (fed : M → ℕ → M) (plan : 
     plays_behind Confirm e = to_copy_by (is_clover s.kind) refl e
     plays_behind Search e = record { at = record { stage = is; search = e }; seeks = seeks_begun l s.layout (mark_word s) fits is.layout }
     plays_behind Copy e = to_fix_by (is_clover s.kind) refl e
-    plays_behind Fix e = plays_next kit fed l kind cycles s Free is (marked_free (is_clover kind) s.cycle s.marks (marked_at kit fed l kind cycles s Fix is e))
+    plays_behind Fix e = record { stage = is; fix = e; walks = subst (λ (x : Sizes). Walks (area_of l) (walks.begun x)) (sym is.layout) (walks_begun l fits); on = λ gone. cc gone }
     plays_behind Free e = plays_behind_free s (nat_lt s.cycle s.cycles) is.layout is.kind_is is.cycles_are is.last e (marked_mark (is_clover kind) s.cycle s.marks is.first (marked_at kit fed l kind cycles s Free is e)) refl
 
-    plays_awaited : (pass : ℕ) (more : Bool) → 1 ≤ pass → nat_lt pass s.layout.passes ≡ more → Plays (if more then look s (pass + 1) else behind_by kit plan s.announcement s)
+    pub plays_awaited : (pass : ℕ) (more : Bool) → 1 ≤ pass → nat_lt pass s.layout.passes ≡ more → Plays (if more then look s (pass + 1) else behind_by kit plan s.announcement s)
     plays_awaited pass true least e =
         let passes : s.layout.passes ≡ l.passes = ap (λ (t : Sizes). t.passes) is.layout in
         record { stage = is; in_layout = (omega arith, grind (arith, nat_tests)); look = refl }
@@ -222,8 +250,27 @@ module _ {R W E M : Type 0} (kit : Kit R W E M) (fed : M → ℕ → M) (plan : 
     plays_look : (pass found : ℕ) → IsPass l pass → Plays (fed_of kit fed plan (look s pass) found)
     plays_look pass found in_layout = elim (look_tells kit plan fed s pass found) [
       | inl on ↦ subst Plays (sym on.1) (plays_awaited pass (nat_lt pass s.layout.passes) in_layout.0 refl)
-      | inr again ↦ subst Plays (sym again) (record { stage = is; in_layout = in_layout; look = refl })
+      | inr rest ↦ elim rest [
+        | inl again ↦ subst Plays (sym again) (record { stage = is; in_layout = in_layout; look = refl })
+        | inr roots ↦ subst Plays (sym roots.2) (record { stage = is; fix = roots.1; in_layout = in_layout; small = omega arith; fixes = root_place l s.layout pass 0 is.layout in_layout })
+      ]
     ]
+
+    -- ---- root words
+
+    plays_roots_next : (pass reg : ℕ) (more : Bool) → s.announcement ≡ Fix → IsPass l pass → nat_lt reg (REGISTERS - 1) ≡ more → Plays (if more then root_fix s pass (reg + 1) else awaited kit plan s pass)
+    plays_roots_next pass reg true fix there e = record { stage = is; fix = fix; in_layout = there; small = grind (arith, nat_tests, e); fixes = root_place l s.layout pass (reg + 1) is.layout there }
+    plays_roots_next pass reg false fix there e = plays_awaited pass (nat_lt pass s.layout.passes) there.0 refl
+
+    plays_rooted : (pass reg : ℕ) (m : RootFixMachine) (end : Option (Unit {0})) → IsRooting l kind cycles s pass reg m → (after : RootFixMachine) → (end ≡ None → IsRootFixOf (root_at l pass reg) after) → Plays (rooted kit plan s pass reg after end)
+    plays_rooted pass reg m None rooting after on = record { stage = is; fix = rooting.fix; in_layout = rooting.in_layout; small = rooting.small; fixes = on refl }
+    plays_rooted pass reg m (Some end) rooting after on = plays_roots_next pass reg (nat_lt reg (REGISTERS - 1)) rooting.fix rooting.in_layout refl
+
+  -- ---- the walk
+
+  plays_walked : (s : Stage) (m : FixWalkMachine) (end : Option (Unit {0})) → IsStage l kind cycles s → s.announcement ≡ Fix → Walks (area_of l) m → (end ≡ None → walks.asks_of m ≢ Ended) → Plays (walked s m end)
+  plays_walked s m None is fix walks on = record { stage = is; fix = fix; walks = walks; on = on refl }
+  plays_walked s m (Some end) is fix walks on = plays_next kit fed l kind cycles s Free is (marked_free (is_clover kind) s.cycle s.marks (marked_at kit fed l kind cycles s Fix is fix))
 
   -- ---- a search
 
@@ -270,6 +317,9 @@ module _ {R W E M : Type 0} (kit : Kit R W E M) (fed : M → ℕ → M) (plan : 
   plays_fed (collector.Target s region next) found layout is = plays_target (slice_get plan.jobs next) s next refl is.0
   plays_fed (collector.Tag s job next) found layout is = plays_tag (slice_get plan.jobs next) s next refl is.0 is.1
   plays_fed (collector.Move s job next m) found layout is = plays_moved s job next (fed m found) (kit.move_ended (fed m found)) is.0 is.1 is.2
+  plays_fed (collector.Roots s pass reg m) found layout is = plays_rooted layout s is.stage pass reg m (roots.end_of (roots.fed_of m found)) is (roots.fed_of m found) (λ none. root_on (root_at l pass reg) m found is.fixes none)
+  plays_fed (collector.Walk s m) found layout is =
+      plays_walked s (walks.fed_of m found) (walks.end_of (walks.fed_of m found)) is.stage is.fix (walk_steps (area_of l) m found is.walks is.on).on (λ none. walk_on (area_of l) m found is.walks is.on none)
   plays_fed (collector.Done s) found layout is = is
 
 -- nothing is drawn at the start

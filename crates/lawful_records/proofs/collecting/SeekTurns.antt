@@ -47,6 +47,7 @@ use Rattle.lawful_records.specs.declared.records.Sealed.{Sealed}
 use Rattle.lawful_records.specs.Collectors.{word_of, mark_word, is_refused, stage_before, searched, jobs_of, sought}
 use Rattle.lawful_records.specs.Cycling.{announced_by, cycle_of, told_before, clear_before}
 use Rattle.lawful_records.specs.Handshakes.{HasDrawn, IsSearch}
+use Rattle.lawful_records.specs.Fixing.{FixStands}
 use Rattle.lawful_records.specs.JobStands.{stand_at, stand_at_copy, stand_of, StandsAt}
 use Rattle.lawful_records.specs.Searches.{Seeks, HasPassed, IsAtObject, SearchStands}
 use Rattle.lawful_records.proofs.frames.SpareStays.{mark_low, region_low, spare_low, spare_same}
@@ -152,7 +153,8 @@ module _ {R W E M : Type 0} (kit : Kit R W E M) (by : Stepping R W E M) (laws : 
       phase = stands.announced;
       drawn = refl;
       acks = λ p. refl;
-      roots = λ p reg. refl;
+      roots = λ p reg runs. refl;
+      rooted = λ p is. is;
       advances = Stays;
       marks = λ waits. absurd (omega (arith, passed_all, waits));
       differ = λ waits. absurd (omega (arith, passed_all, waits));
@@ -164,6 +166,10 @@ module _ {R W E M : Type 0} (kit : Kit R W E M) (by : Stepping R W E M) (laws : 
       still = λ a moved. moved;
       stands_then = coming_on st.announcement stands.collects.search stands.jobs;
       search_then = tt;
+      aside = λ a is. absurd is;
+      fixed = λ e. stands.fixed.stands refl;
+      lets = λ acked all by_next. inl refl;
+      roots_fixed = λ p own is retired roots. is.roots retired (inl refl);
       none_sealed = append-nil sealed;
     }
 
@@ -352,6 +358,16 @@ module _ {R W E M : Type 0} (kit : Kit R W E M) (by : Stepping R W E M) (laws : 
     parts : Parts (sought st next end)
     parts = parts_by end refl
 
+    -- what is fixed stays so
+    fixed_found : (more : Bool) → FixStands {M = M} (if more then collector.Draw (searched st (st.marks.round + 1)) else collector.Announce (record st { announcement = Fix })) s n
+    fixed_found true = λ e. stands.fixed.stands refl
+    fixed_found false = λ e. stands.fixed.stands refl
+
+    fixed_by : (end : Option SeekEnd) → FixStands {M = M} (sought st next end) s n
+    fixed_by None = λ e. stands.fixed.stands refl
+    fixed_by (Some Clear) = λ e. stands.fixed.stands refl
+    fixed_by (Some (MarkFound place)) = fixed_found (nat_lt st.marks.round SEARCHES)
+
     pub heard_seek : Heard seeking
     heard_seek = record {
       notices = n;
@@ -360,7 +376,8 @@ module _ {R W E M : Type 0} (kit : Kit R W E M) (by : Stepping R W E M) (laws : 
       phase = stands.announced ∙ sym (same_word end);
       drawn = stands.drawn ∙ sym (sought_drawn kit l kit.kind stands.cycles stands.few st at next end);
       acks = λ p. refl;
-      roots = λ p reg. refl;
+      roots = λ p reg runs. refl;
+      rooted = λ p is. is;
       advances = subst (Advances l n.ack (announced_by seeking)) (sym (sought_announced kit l kit.kind stands.cycles stands.few st at m next end)) Stays;
       marks = λ waits. refl;
       differ = λ waits. absurd (let all = passes_is st stands.cycles stands.few at in omega (arith, all, waits));
@@ -369,6 +386,10 @@ module _ {R W E M : Type 0} (kit : Kit R W E M) (by : Stepping R W E M) (laws : 
       still = λ a moved. moved;
       stands_then = parts.stands_then;
       search_then = parts.search_then;
+      aside = λ a is. absurd is;
+      fixed = fixed_by end;
+      lets = λ acked all by_next. inl refl;
+      roots_fixed = λ p own is retired roots. is.roots retired (inl refl);
       none_sealed = append-nil sealed;
     }
 

@@ -2,6 +2,12 @@
 use Rattle.std.specs.Prelude.{◌≢◌, ◌⊎◌, take, drop}
 use Rattle.std.specs.List.{All, slice_get}
 use Rattle.std.proofs.Common.{inl, inr, ◌≡◌, ℕ, ◌==◌, true, List, get_or, refl, sym, ap, ◌∙◌, subst, arith}
+use Rattle.barriers.specs.States.{IsHome}
+use Rattle.lawful_records.specs.Fixing.{IsAside, AreFieldsFixed, AreJobsAside}
+use Rattle.lawful_records.proofs.fixing.Frames.{NamesOn, word_names}
+use Rattle.lawful_records.proofs.fixing.Objects.{tag_objects}
+use Rattle.lawful_records.proofs.fixing.Looks.{before_fixed}
+use Rattle.lawful_records.proofs.fixing.Turns.{calm_passes}
 use Rattle.std.proofs.lemmas.List.{append-nil}
 use Rattle.std.proofs.lemmas.List.Elements.{All-weaker}
 use prog.Atomic.{either}
@@ -229,6 +235,23 @@ module _ {R W E M : Type 0} (kit : Kit R W E M) (by : Stepping R W E M) (laws : 
   quiet : (p : PassKnown R W E) → IsPassRecord kit l (announced_by k) (cycle_of k) s n p → IsPassRecord kit l (announced_by k) (cycle_of k) after n p
   quiet = quiet_passes kit by l words k s after n (seen_by_others kit.protocol laws.table (cycle_of {M = M} k) s after stands.objects tagged.seen) (λ region own. record { word = refl; ends = refl }) refl
 
+  -- ---- what is fixed
+
+  names_on : NamesOn s after
+  names_on birth at is = elim (set_cases s.state job.from at Tagged) [ inl q ↦ (is.0, subst IsHome (sym q.1) tt) | inr q ↦ (is.0, subst IsHome (sym q.1) is.1) ]
+
+  home_back : (a : ℕ) → IsHome (after.state a) → IsHome (s.state a)
+  home_back a home = elim (set_cases s.state job.from a Tagged) [ inl q ↦ subst IsHome (sym (ap s.state q.0 ∙ plain)) tt | inr q ↦ subst IsHome q.1 home ]
+
+  aside_then : AreJobsAside {M = M} plan on after
+  aside_then a aside = tag_objects kit plan st next (slice_get plan.jobs next) refl stands.collects.0.planned stands.collects.0.next_is (ap is_clover stands.collects.0.stage.kind_is ∙ stands.collects.1) a (elim (set_cases s.state job.from a Tagged) [
+    | inl q ↦ (job, stands.collects.2, q.0)
+    | inr q ↦ stands.fixed.aside a (subst IsAside q.1 aside)
+  ])
+
+  fields_then : AreFieldsFixed after
+  fields_then a f home less = word_names s after names_on (s.field a f) (stands.fixed.stands refl a f (home_back a home) less)
+
   pub tag_goes : CollectorGoes kit by l words plan s n sealed k
   tag_goes = record {
     space = after;
@@ -248,5 +271,9 @@ module _ {R W E M : Type 0} (kit : Kit R W E M) (by : Stepping R W E M) (laws : 
     search = none_sought st l (cycle_of on) after on before;
     sealed_are = subst (AreSealed after) (sym (append-nil sealed)) (sealed_tagged s job.from plain sealed stands.sealed_are);
     seals = tt;
+    fixed = record {
+      own = record { aside = aside_then; stands = before_fixed st after n on before fields_then };
+      passes = λ p own is. calm_passes kit l k on s after n refl names_on p own is;
+    };
     heads = λ b. header_tagged l s stands.rows job.from plain kit.kind b tags;
   }

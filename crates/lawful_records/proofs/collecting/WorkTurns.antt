@@ -1,7 +1,10 @@
 -- The collector stores what the regions of the cycle's plan are used for.
 use Rattle.std.specs.Prelude.{◌<◌, take}
 use Rattle.std.specs.List.{slice_get}
-use Rattle.std.proofs.Common.{inl, inr, ◌≡◌, ◌≢◌, ℕ, ◌≤◌, List, [], ◌++◌, refl, sym, ap, ◌∙◌, subst, arith, length}
+use Rattle.std.proofs.Common.{inl, inr, ◌≡◌, ◌≢◌, ℕ, ◌≤◌, true, List, [], ◌++◌, refl, sym, ap, ◌∙◌, subst, arith, length}
+use Rattle.lawful_records.specs.Fixing.{is_fixed, AreFieldsFixed, IsOfJob}
+use Rattle.lawful_records.proofs.fixing.Looks.{before_fixed}
+use Rattle.lawful_records.proofs.fixing.Turns.{calm_passes}
 use Rattle.std.proofs.lemmas.List.{append-nil}
 use Rattle.std.proofs.lemmas.List.Elements.{All-weaker}
 use Rattle.call_steps.specs.declared.step.Step.{Step}
@@ -126,6 +129,7 @@ module _ {R W E M : Type 0} (kit : Kit R W E M) (by : Stepping R W E M) (laws : 
 
     -- after it the work goes on, before the same stage is announced
     module _ (st : Stage) (its : IsBefore st m) (asks : collector_asks kit by m ≡ step) (sealing : sealed_now kit by m s.history (found_in kit by l words m) ≡ []) (next : IsBefore st (next_of kit by l words plan m)) (idle : (a : ℕ) → IsMovedBy m a → ⊥)
+        (calm : is_fixed m ≡ true) (fields : AreFieldsFixed s) (none : (a : ℕ) → IsOfJob (stand_of plan m) a → ⊥)
         (jobs : StandsAt kit l (cycle_of (next_of kit by l words plan m)) t (stand_of plan (next_of kit by l words plan m))) where
       abbrev after : CollectorMachine M
       after = next_of kit by l words plan m
@@ -161,6 +165,10 @@ module _ {R W E M : Type 0} (kit : Kit R W E M) (by : Stepping R W E M) (laws : 
         search = none_sought st l (cycle_of after) t after next;
         sealed_are = subst (AreSealed t) (sym (ap (λ more. sealed ++ more) sealing ∙ append-nil sealed)) (sealed_region s k x sealed stands.sealed_are);
         seals = keeps_idle s t m (length (sealed_now kit by m s.history (found_in kit by l words m))) idle;
+        fixed = record {
+          own = record { aside = λ a aside. absurd (none a (stands.fixed.aside a aside)); stands = before_fixed st t n after next fields };
+          passes = λ p own is. calm_passes kit l m after s t n calm (λ birth at names. names) p own is;
+        };
         heads = λ a. inl refl;
       }
 
@@ -182,7 +190,7 @@ module _ {R W E M : Type 0} (kit : Kit R W E M) (by : Stepping R W E M) (laws : 
 
     pub source_goes : CollectorGoes kit by l words plan s n sealed (collector.Source st region next)
     source_goes = store_goes (collector.Source st region next) stands st.layout stands.collects.0.stage.layout region source_low regions.Source (λ e. cc e) tt
-        st refl refl refl (source_before kit plan st (slice_get plan.chosen next) next) (λ a moved. moved) source_stands
+        st refl refl refl (source_before kit plan st (slice_get plan.chosen next) next) (λ a moved. moved) refl (stands.fixed.stands refl) (λ a its. its) source_stands
 
   -- ---- Target
 
@@ -207,4 +215,4 @@ module _ {R W E M : Type 0} (kit : Kit R W E M) (by : Stepping R W E M) (laws : 
 
     pub target_goes : CollectorGoes kit by l words plan s n sealed (collector.Target st region next)
     target_goes = store_goes (collector.Target st region next) stands st.layout stands.collects.0.stage.layout region target_low regions.Target (λ e. cc e) tt
-        st refl refl refl (target_before kit plan st (slice_get plan.jobs next) next) (λ a moved. moved) target_stands
+        st refl refl refl (target_before kit plan st (slice_get plan.jobs next) next) (λ a moved. moved) refl (stands.fixed.stands refl) (λ a its. its) target_stands

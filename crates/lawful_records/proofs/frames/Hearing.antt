@@ -19,13 +19,15 @@ use Rattle.barriers.specs.Kits.{Kit}
 use Rattle.barriers.specs.declared.pass.PassMachine.{PassMachine}
 use Rattle.barriers.specs.declared.pass.PassMachine.TheVariants as machine
 use Rattle.lawful_records.specs.Cycling.{announced_by, cycle_of}
-use Rattle.lawful_records.specs.LawfulRecords.{IsMoved, IsPollIn, IsAcked, IsMachine, IsPassRecord, IsParty}
+use Rattle.handshakes.specs.declared.retire.RetireMachine.{RetireMachine}
+use Rattle.handshakes.specs.declared.retire.RetireMachine.TheVariants as retire
+use Rattle.lawful_records.specs.LawfulRecords.{AreRooted, IsMoved, IsPollIn, IsAcked, IsMachine, IsPassRecord, IsParty}
 use Rattle.lawful_records.specs.Records.{view_by, number_of, acked_of, mark_of, side_of}
 use Rattle.lawful_records.specs.declared.collector.CollectorMachine.{CollectorMachine}
 use Rattle.lawful_records.specs.declared.records.PassKnown.{PassKnown}
 use Rattle.lawful_records.specs.declared.records.Party.{Party}
 use Rattle.lawful_records.specs.declared.records.Party.TheVariants as party
-use Rattle.lawful_records.proofs.frames.Machines.{stored_stays, retire_stays}
+use Rattle.lawful_records.proofs.frames.Machines.{retire_keeps}
 use Rattle.lawful_records.proofs.parties.Counts.{IsPassParty}
 
 -- it is in a poll that has not ended
@@ -37,7 +39,9 @@ module _ {R W E M : Type 0} (kit : Kit R W E M) where
   -- What the announcement a in the cycle c, with the notices n, has become to a pass: b in the cycle d, with o.
   pub record Hears (a b : Announced) (c d : Cycle) (s : Space) (n o : Notices) (p : PassKnown R W E) : Type 0 where
     pub ack : o.ack (number_of p) ≡ n.ack (number_of p)
-    pub roots : (reg : ℕ) → o.root (number_of p) reg ≡ n.root (number_of p) reg
+    -- only the root words of a pass that has retired may be fixed
+    pub roots : acked_of p ≢ retired_word → (reg : ℕ) → o.root (number_of p) reg ≡ n.root (number_of p) reg
+    pub rooted : AreRooted s n (number_of p) p.pass.registers → AreRooted s o (number_of p) p.pass.registers
     pub side : IsSide kit.protocol d s (side_of kit p)
     pub call : (k : Known) → IsCall kit.protocol c s (side_of kit p) k → IsCall kit.protocol d s (side_of kit p) k
     pub answers : Answers b (number_of p) (acked_of p)
@@ -51,7 +55,7 @@ module _ {R W E M : Type 0} (kit : Kit R W E M) where
   polled p n = record { view = p.pass.view; registers = p.pass.registers; announced = n.phase; mark = n.mark }
 
   -- it runs, and has acknowledged what its record says
-  polls_acked : (view : PassView) (x : PassMachine R W E) → Polls x → IsAcked kit x (let now = view_by x view in now.acked) → ((let now = view_by x view in now.acked) ≢ retired_word) × ((let now = view_by x view in now.acked) ≡ view.acked)
+  pub polls_acked : (view : PassView) (x : PassMachine R W E) → Polls x → IsAcked kit x (let now = view_by x view in now.acked) → ((let now = view_by x view in now.acked) ≢ retired_word) × ((let now = view_by x view in now.acked) ≡ view.acked)
   polls_acked view (machine.Poll (poll.Phase p)) polls acked = (acked, refl)
   polls_acked view (machine.Poll (poll.Mark p word)) polls acked = (acked, refl)
   polls_acked view (machine.Poll (poll.Follow p word register birth at)) polls acked = (acked, refl)
@@ -67,16 +71,20 @@ module _ {R W E M : Type 0} (kit : Kit R W E M) where
   poll_hears_on s n o p (poll.Follow x word register birth at) waits is = poll_hears (IsMoved s) (polled p n) o.phase o.mark (waits tt) (poll.Follow x word register birth at) tt is
   poll_hears_on s n o p (poll.Acknowledge x word mark) waits is = poll_hears (IsMoved s) (polled p n) o.phase o.mark (waits tt) (poll.Acknowledge x word mark) tt is
 
-  machine_hears : (l : Sizes) (c d : Cycle) (s : Space) (n o : Notices) (p : PassKnown R W E) (x : PassMachine R W E) → ((reg : ℕ) → o.root (number_of p) reg ≡ n.root (number_of p) reg) → ((k : Known) → IsCall kit.protocol c s (side_of kit p) k → IsCall kit.protocol d s (side_of kit p) k)
+  retires_as : (m : RetireMachine) (x y : PassMachine R W E) → x ≡ machine.Retire m → y ≡ machine.Retire retire.Ended → x ≡ y → m ≡ retire.Ended
+  retires_as m x y is ended e = cc
+
+  machine_hears : (l : Sizes) (c d : Cycle) (s : Space) (n o : Notices) (p : PassKnown R W E) (x : PassMachine R W E) → (x ≢ machine.Retire retire.Ended → x ≢ machine.Retired → (reg : ℕ) → o.root (number_of p) reg ≡ n.root (number_of p) reg) → (AreRooted s n (number_of p) p.pass.registers → AreRooted s o (number_of p) p.pass.registers) → ((k : Known) → IsCall kit.protocol c s (side_of kit p) k → IsCall kit.protocol d s (side_of kit p) k)
       → (Polls x → (let view = p.pass.view in view.acked) ≢ n.phase → (o.phase ≡ n.phase) × (o.mark ≡ n.mark)) → IsMachine kit l c s n p x → IsMachine kit l d s o p x
-  machine_hears l c d s n o p machine.Idle roots call waits is = tt
-  machine_hears l c d s n o p machine.Retired roots call waits is = stored_stays n o (number_of p) p.pass.registers 8 roots is
-  machine_hears l c d s n o p (machine.Poll m) roots call waits is = poll_hears_on s n o p m waits is
-  machine_hears l c d s n o p (machine.New m) roots call waits is = is
-  machine_hears l c d s n o p (machine.Read m) roots call waits is = (call (kit.reads m) is.0, is.1, is.2)
-  machine_hears l c d s n o p (machine.Write m) roots call waits is = (call (kit.writes m) is.0, is.1, is.2)
-  machine_hears l c d s n o p (machine.Exchange m) roots call waits is = (call (kit.exchanges m) is.0, is.1, is.2)
-  machine_hears l c d s n o p (machine.Retire m) roots call waits is = retire_stays l n o (number_of p) p.pass.registers (let room = p.pass.room in room.region) m roots is
+  machine_hears l c d s n o p machine.Idle roots rooted call waits is = tt
+  machine_hears l c d s n o p machine.Retired roots rooted call waits is = rooted is
+  machine_hears l c d s n o p (machine.Poll m) roots rooted call waits is = poll_hears_on s n o p m waits is
+  machine_hears l c d s n o p (machine.New m) roots rooted call waits is = is
+  machine_hears l c d s n o p (machine.Read m) roots rooted call waits is = (call (kit.reads m) is.0, is.1, is.2)
+  machine_hears l c d s n o p (machine.Write m) roots rooted call waits is = (call (kit.writes m) is.0, is.1, is.2)
+  machine_hears l c d s n o p (machine.Exchange m) roots rooted call waits is = (call (kit.exchanges m) is.0, is.1, is.2)
+  machine_hears l c d s n o p (machine.Retire m) roots rooted call waits is =
+      retire_keeps l s s n o (number_of p) p.pass.registers (let room = p.pass.room in room.region) m (λ on. roots (λ e. on (retires_as m (machine.Retire m) (machine.Retire retire.Ended) refl refl e)) (λ e. cc e)) rooted is
 
   pub pass_hears : (l : Sizes) (a b : Announced) (c d : Cycle) (s : Space) (n o : Notices) (p : PassKnown R W E) → Hears a b c d s n o p → IsPassRecord kit l a c s n p → IsPassRecord kit l b d s o p
   pass_hears l a b c d s n o p hears is = record {
@@ -95,10 +103,16 @@ module _ {R W E M : Type 0} (kit : Kit R W E M) where
     room = is.room;
     few = is.few;
     unborn = is.unborn;
-    machine = machine_hears l c d s n o p p.pass.machine hears.roots hears.call waits is.machine;
+    machine = machine_hears l c d s n o p p.pass.machine (λ retiring retired. hears.roots (runs_by p.pass.machine retiring retired is.answering.retired)) hears.rooted hears.call waits is.machine;
     told = is.told;
     met = is.met;
   } where
+    -- it has not retired
+    runs_by : (x : PassMachine R W E) → x ≢ machine.Retire retire.Ended → x ≢ machine.Retired → IsAcked kit x (acked_of p) → acked_of p ≢ retired_word
+    runs_by machine.Retired retiring retired acked = absurd (retired refl)
+    runs_by (machine.Retire retire.Ended) retiring retired acked = absurd (retiring refl)
+    runs_by x retiring retired acked = acked
+
     waits : Polls p.pass.machine → (let view = p.pass.view in view.acked) ≢ n.phase → (o.phase ≡ n.phase) × (o.mark ≡ n.mark)
     waits polls apart = let runs = polls_acked p.pass.view p.pass.machine polls is.answering.retired in hears.waits runs.0 (λ same. apart (sym runs.1 ∙ same))
 

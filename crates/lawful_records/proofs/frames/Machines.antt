@@ -3,7 +3,7 @@ use Rattle.std.proofs.Common.{◌≡◌, ◌≢◌, ℕ, List, [], ◌∷◌, �
 use Rattle.heap_words.specs.Layouts.{Sizes, IsPass}
 use Rattle.heap_words.specs.declared.field_word.FieldWord.{FieldWord}
 use Rattle.heap_words.specs.declared.field_word.FieldWord.TheVariants.{Num, Link}
-use Rattle.handshakes.specs.Polling.{Polled}
+use Rattle.handshakes.specs.Polling.{held_in, Polled}
 use Rattle.handshakes.specs.PollingLaws.{poll_weaker}
 use Rattle.handshakes.specs.Retiring.{stored_by}
 use Rattle.handshakes.specs.declared.poll.PollMachine.{PollMachine}
@@ -24,8 +24,9 @@ use Rattle.barriers.specs.Kits.{Kit}
 use Rattle.space_reclaim.specs.OwnRegions.{IsOwn}
 use Rattle.lawful_records.specs.Frames.{SameRegion, Beside}
 use Rattle.lawful_records.specs.Making.{IsRegionOf, IsRoomIn, IsRoom, IsPlaced, IsLeft, IsMade, IsMaking, lens_of}
+use Rattle.handshakes.specs.declared.retire.RetireMachine.TheVariants as retire
 use Rattle.lawful_records.proofs.turns.Ordering.{order_stays}
-use Rattle.lawful_records.specs.LawfulRecords.{IsGood, IsMoved, AreStored, IsPollIn, IsRetireIn, IsMachine}
+use Rattle.lawful_records.specs.LawfulRecords.{AreRooted, IsGood, IsMoved, AreStored, IsPollIn, IsRetireIn, IsMachine}
 use Rattle.lawful_records.specs.Records.{number_of, side_of}
 use Rattle.barriers.specs.declared.pass.PassMachine.{PassMachine}
 use Rattle.barriers.specs.declared.pass.PassMachine.TheVariants as machine
@@ -121,8 +122,19 @@ poll_stays s t x (poll.Mark p word) holds is = poll_weaker (IsMoved s) (IsMoved 
 poll_stays s t x (poll.Follow p word register birth at) holds is = poll_weaker (IsMoved s) (IsMoved t) (λ v w. moved_stays s t v w holds) x (poll.Follow p word register birth at) is
 poll_stays s t x (poll.Acknowledge p word mark) holds is = poll_weaker (IsMoved s) (IsMoved t) (λ v w. moved_stays s t v w holds) x (poll.Acknowledge p word mark) is
 
-pub retire_stays : (l : Sizes) (n o : Notices) (pass : ℕ) (registers : List FieldWord) (region : Option ℕ) (m : RetireMachine) → ((reg : ℕ) → o.root pass reg ≡ n.root pass reg) → IsRetireIn l n pass registers region m → IsRetireIn l o pass registers region m
-retire_stays l n o pass registers region m same is = (is.0, stored_stays n o pass registers (stored_by m) same is.1)
+pub rooted_stays : (s t : Space) (n o : Notices) (pass : ℕ) (registers : List FieldWord) → ((reg : ℕ) → o.root pass reg ≡ n.root pass reg) → HoldsOn s t → AreRooted s n pass registers → AreRooted t o pass registers
+rooted_stays s t n o pass registers same holds rooted i less = subst (IsMoved t (held_in registers i)) (sym (same i)) (moved_stays s t (held_in registers i) (n.root pass i) holds (rooted i less))
+
+-- a retirement under way keeps its root words, and one that has ended has them hold
+pub retire_keeps : (l : Sizes) (s t : Space) (n o : Notices) (pass : ℕ) (registers : List FieldWord) (region : Option ℕ) (m : RetireMachine) → (m ≢ retire.Ended → (reg : ℕ) → o.root pass reg ≡ n.root pass reg) → (AreRooted s n pass registers → AreRooted t o pass registers)
+    → IsRetireIn l s n pass registers region m → IsRetireIn l t o pass registers region m
+retire_keeps l s t n o pass registers region retire.Ended same rooted is = rooted is
+retire_keeps l s t n o pass registers region (retire.Root r behind) same rooted is = (is.0, stored_stays n o pass registers (stored_by (retire.Root r behind)) (same (λ e. cc e)) is.1)
+retire_keeps l s t n o pass registers region (retire.Region r at) same rooted is = (is.0, stored_stays n o pass registers (stored_by (retire.Region r at)) (same (λ e. cc e)) is.1)
+retire_keeps l s t n o pass registers region (retire.Acknowledge r) same rooted is = (is.0, stored_stays n o pass registers (stored_by (retire.Acknowledge r)) (same (λ e. cc e)) is.1)
+
+pub retire_stays : (l : Sizes) (s t : Space) (n o : Notices) (pass : ℕ) (registers : List FieldWord) (region : Option ℕ) (m : RetireMachine) → ((reg : ℕ) → o.root pass reg ≡ n.root pass reg) → HoldsOn s t → IsRetireIn l s n pass registers region m → IsRetireIn l t o pass registers region m
+retire_stays l s t n o pass registers region m same holds is = retire_keeps l s t n o pass registers region m (λ on. same) (rooted_stays s t n o pass registers same holds) is
 
 -- ---- the machine of a pass
 
@@ -130,7 +142,7 @@ module _ {R W E M : Type 0} (kit : Kit R W E M) where
   pub machine_stays : (l : Sizes) (c : Cycle) (m : ℕ) (s t : Space) (n o : Notices) (p : PassKnown R W E) (x : PassMachine R W E) → IsPass l (number_of p) → number_of p ≢ m → Beside kit l c m s t n o → IsSide kit.protocol c s (side_of kit p)
       → IsMachine kit l c s n p x → IsMachine kit l c t o p x
   machine_stays l c m s t n o p machine.Idle pass other beside side is = tt
-  machine_stays l c m s t n o p machine.Retired pass other beside side is = stored_stays n o (number_of p) p.pass.registers 8 (λ reg. beside.roots (number_of p) reg other) is
+  machine_stays l c m s t n o p machine.Retired pass other beside side is = rooted_stays s t n o (number_of p) p.pass.registers (λ reg. beside.roots (number_of p) reg other) beside.seen.holds is
   machine_stays l c m s t n o p (machine.Poll x) pass other beside side is =
       let at : ℕ → ℕ → Polled = λ announced mark. record { view = p.pass.view; registers = p.pass.registers; announced = announced; mark = mark } in
       let now : IsPollIn t (at n.phase n.mark) x = poll_stays s t (at n.phase n.mark) x beside.seen.holds is in
@@ -141,4 +153,4 @@ module _ {R W E M : Type 0} (kit : Kit R W E M) where
   machine_stays l c m s t n o p (machine.Write x) pass other beside side is = (beside.seen.call (side_of kit p) (kit.writes x) side is.0, is.1, is.2)
   machine_stays l c m s t n o p (machine.Exchange x) pass other beside side is = (beside.seen.call (side_of kit p) (kit.exchanges x) side is.0, is.1, is.2)
   machine_stays l c m s t n o p (machine.Retire x) pass other beside side is =
-      retire_stays l n o (number_of p) p.pass.registers (let room = p.pass.room in room.region) x (λ reg. beside.roots (number_of p) reg other) is
+      retire_stays l s t n o (number_of p) p.pass.registers (let room = p.pass.room in room.region) x (λ reg. beside.roots (number_of p) reg other) beside.seen.holds is

@@ -1,6 +1,6 @@
 -- A search has come as far as it had under the turns of passes.
 use Rattle.std.specs.Prelude.{◌<◌}
-use Rattle.std.proofs.Common.{inl, inr, ◌≡◌, ◌≢◌, ℕ, ◌+◌, true, false, refl, sym, ap, ◌∙◌, subst}
+use Rattle.std.proofs.Common.{inl, inr, ◌≡◌, ◌≢◌, ℕ, ◌+◌, true, false, Option, refl, sym, ap, ◌∙◌, subst}
 use Rattle.heap_words.specs.Layouts.{Sizes}
 use Rattle.heap_words.specs.declared.field_word.FieldWord.{FieldWord}
 use Rattle.heap_words.specs.declared.field_word.FieldWord.TheVariants.{Num}
@@ -21,7 +21,7 @@ use Rattle.barriers.specs.Says.{put_region, append}
 use Rattle.barriers.specs.Cycles.{Cycle, Side}
 use Rattle.barriers.specs.Protocols.{Protocol}
 use Rattle.barriers.proofs.words.Sets.{set_cases, set_here, set_else}
-use Rattle.lawful_records.specs.Frames.{IsSameAt, Left, Same, Untagged, Born, Leaves, LeavesSearch}
+use Rattle.lawful_records.specs.Frames.{IsSameAt, Left, Same, Untagged, Born, KeepsFields, Leaves, LeavesSearch}
 use Rattle.lawful_records.specs.Searches.{HasPassed, IsBegun, IsAtObject, HasSought}
 
 -- ---- turns that change no object
@@ -58,6 +58,16 @@ search_append kind c side s k len birth colour call zero = record {
         inl (subst (λ (x : ℕ). set s.state (s.ends k) Plain x ≢ Absent) place (λ none. (let gone : Plain ≡ Absent = sym (set_here s.state (s.ends k) Plain) ∙ none in cc gone)))
     | inr other ↦ inr (other.1 ∙ ends)
   ]
+
+pub fields_append : (put : Option FieldWord) (s : Space) (k len birth : ℕ) (colour : Colour) (call : Call) → KeepsFields put s (append s k len birth colour call)
+fields_append put s k len birth colour call a f home less = elim (set_cases s.field (s.ends k) a (λ f. Num 0)) [
+  | inl new ↦ inr (inl (ap (λ (fields : ℕ → FieldWord). fields f) new.1))
+  | inr old ↦ inl (
+    subst IsHome (set_else s.state (s.ends k) a Plain old.0) home,
+    subst (λ (n : ℕ). f < n) (set_else s.len (s.ends k) a len old.0) less,
+    ap (λ (fields : ℕ → FieldWord). fields f) old.1,
+  )
+]
 
 -- ---- what a turn leaves
 

@@ -16,12 +16,14 @@ use Rattle.space_reclaim.specs.declared.region_word.RegionWord.TheVariants as re
 use Rattle.space_reclaim.specs.OwnRegions.{IsOwn}
 use Rattle.barriers.specs.Spaces.{Space, Holds}
 use Rattle.barriers.specs.Says.{opening_notices, opening_space}
-use Rattle.barriers.specs.States.{Absent, Plain}
+use Rattle.barriers.specs.States.{Absent, Plain, On}
 use Rattle.barriers.specs.Cycles.{Cycle, Handshaken}
 use Rattle.barriers.specs.Objects.{IsSide}
 use Rattle.barriers.specs.Protocols.{OnHand}
 use Rattle.barriers.specs.Kits.{Kit, Stepping, Laws, own_of}
 use Rattle.barriers.proofs.words.Sets.{set_here, set_else}
+use Rattle.lawful_records.specs.Fixing.{Names, IsFixedPass}
+use Rattle.lawful_records.specs.declared.collector.CollectorMachine.{CollectorMachine}
 use Rattle.lawful_records.specs.LawfulRecords.{IsGood, IsUnborn, IsPassRecord}
 use Rattle.lawful_records.specs.Making.{IsRoom}
 use Rattle.lawful_records.specs.Meetings.{IsNamed}
@@ -116,3 +118,11 @@ module _ {R W E M : Type 0} (kit : Kit R W E M) (by : Stepping R W E M) (laws : 
     told = record { mine = refl; ended = refl; count = refl; within = omega arith; reached = omega arith };
     met = record { registers = λ i. first_held (IsNamed []) l i tt (8, refl); call = tt; made = tt };
   }
+
+-- and its links lead to homes
+pub first_fixed : {R W E M : Type 0} (kit : Kit R W E M) (l : Sizes) (k : CollectorMachine M) (pass : ℕ) → IsFixedPass kit k (opening_space l) opening_notices (opening_pass {R = R} {W = W} {E = E} l pass)
+first_fixed kit l k pass = record {
+  registers = λ runs by i. first_held (On (Names (opening_space l))) l i tt (refl, rw (set_here (λ a. Absent) (first_word l 0) Plain) tt);
+  machine = tt;
+  roots = λ retired. absurd (let gone : 0 ≡ retired_word = retired in cc gone);
+}

@@ -15,6 +15,7 @@ use Rattle.barriers.specs.Objects.{AreObjects, HasLens, IsForward, IsCarrying}
 use Rattle.barriers.specs.Protocols.{OnHand, TargetIs}
 use Rattle.barriers.specs.Kits.{Kit, Stepping, Laws}
 use Rattle.barriers.proofs.words.Sets.{set_cases}
+use Rattle.lawful_records.specs.Fixing.{IsAside}
 
 -- ---- the values of its fields
 
@@ -61,6 +62,10 @@ module _ (l : Sizes) where
   -- nothing is on its way
   pub opening_resting : (a : ℕ) → IsMoving (S.state a) → ⊥
   opening_resting a moving = elim (set_cases (λ a. Absent) (first_word l 0) a Plain) [ inl q ↦ rw q.1 at moving | inr q ↦ rw q.1 at moving ]
+
+  -- and no object is tagged or moved
+  pub opening_aside : (a : ℕ) → IsAside (S.state a) → ⊥
+  opening_aside a aside = elim (set_cases (λ a. Absent) (first_word l 0) a Plain) [ inl q ↦ rw q.1 at aside | inr q ↦ rw q.1 at aside ]
 
   pub opening_lens : HasLens S
   opening_lens a live = refl

@@ -23,6 +23,7 @@ use Rattle.lawful_records.specs.declared.stage.Stage.{Stage}
 use Rattle.lawful_records.specs.Jobs.{first_plan}
 use Rattle.lawful_records.specs.Collectors.{collector_of, stage_at_start, stage_of, word_of, mark_at, drawn_of, announced_of, none_awaited}
 use Rattle.lawful_records.specs.Cycling.{announced_by, clear_by, cycle_of}
+use Rattle.lawful_records.specs.Fixing.{FixStands, IsFixedParty}
 use Rattle.lawful_records.specs.Searches.{SearchStands}
 use Rattle.lawful_records.specs.LawfulRecords.{IsParty, IsHistoryOf, IsThereSealed, LawfulRecords}
 use Rattle.lawful_records.specs.Opening.{opening_words, opening_passes, opening_pass, opening_parties}
@@ -35,9 +36,9 @@ use Rattle.lawful_records.proofs.collecting.Announcing.{announced_is}
 use Rattle.lawful_records.proofs.collecting.FirstJobs.{first_is_plan}
 use Rattle.lawful_records.proofs.collecting.Playing.{plays_from_start}
 use Rattle.lawful_records.proofs.opening.Counting.{opening_counts}
-use Rattle.lawful_records.proofs.opening.FirstRecords.{first_record}
+use Rattle.lawful_records.proofs.opening.FirstRecords.{first_fixed, first_record}
 use Rattle.lawful_records.proofs.opening.FirstStand.{stand_at_start}
-use Rattle.lawful_records.proofs.opening.Objects.{opening_lens, opening_resting, opening_objects}
+use Rattle.lawful_records.proofs.opening.Objects.{opening_aside, opening_lens, opening_resting, opening_objects}
 use Rattle.lawful_records.specs.Counts.{HasCounted, unsealed_in}
 
 -- ---- the announced word
@@ -65,6 +66,10 @@ module _ (M : Type 0) (kind : Kind) (l : Sizes) (cycles salt : ℕ) where
   clear_from : (more : Bool) → clear_by (first more) ≡ false
   clear_from true = refl
   clear_from false = refl
+
+  fixed_from : (more : Bool) → FixStands (first more) (opening_space l) opening_notices
+  fixed_from true = λ e a f home less. tt
+  fixed_from false = λ e a f home less. tt
 
   none_from : (s : Space) (more : Bool) → SearchStands l (cycle_of (first more)) s (first more)
   none_from s true = tt
@@ -138,4 +143,8 @@ module _ {R W E M : Type 0} (kit : Kit R W E M) (by : Stepping R W E M) (laws : 
     each = all_passes (IsParty kit l k (opening_space l) opening_notices) l 1 l.passes
         (λ pass low high. first_record kit by laws l fits (announced_by k) (cycle_of k) (drawn_of k) announcement (announced_at_start kit l cycles salt) none_marked pass (low, omega (arith, high)))
         last (record { machine = refl; cycles = cycles; few = few; plan = first_is_plan l fits kit.kind; collects = plays_from_start kit (first_plan kit.kind l) l cycles salt; jobs = stand_at_start l kit cycles salt; search = none_from M kit.kind l cycles salt (opening_space l) (nat_lt 0 cycles); awaited = record { mark = omega arith; confirm = omega arith; copy = omega arith; fix = omega arith; free = omega arith }; sealed = record { there = All-nil (IsThereSealed (opening_space l)); seals = λ a f live inside. refl }; counted = counted_from (nat_lt 0 cycles); fit = omega arith });
+    fixed = record {
+      stands = fixed_from M kit.kind l cycles salt (nat_lt 0 cycles);
+      each = all_passes (IsFixedParty kit k (opening_space l) opening_notices) l 1 l.passes (λ pass low high. first_fixed kit l k pass) last (λ a aside. absurd (opening_aside l a aside));
+    };
   }

@@ -45,7 +45,7 @@ use Rattle.barriers.specs.declared.pass.PassMachine.TheVariants as machine
 use Rattle.lawful_records.specs.declared.records.PassKnown.{PassKnown}
 use Rattle.lawful_records.proofs.frames.Machines.{good_stays}
 use Rattle.lawful_records.proofs.frames.Regions.{own_apart}
-use Rattle.lawful_records.proofs.frames.SearchStays.{search_append}
+use Rattle.lawful_records.proofs.frames.SearchStays.{search_append, fields_append}
 use Rattle.lawful_records.proofs.telling.Meeting.{named_later}
 use Rattle.lawful_records.proofs.telling.Telling.{told_change}
 use Rattle.lawful_records.proofs.turns.Births.{birth_fits, answered_made, change_fits, there_then, unborn_then}
@@ -104,7 +104,7 @@ module _ {R W E M : Type 0} (kit : Kit R W E M) (by : Stepping R W E M) (laws : 
   made : answer (heap_of_history s.history) call ≡ Made
   made = answered_made kit s.history pass p.pass.made len is.few rests.unborn
 
-  absent : s.state (s.ends k) ≡ Absent
+  pub absent : s.state (s.ends k) ≡ Absent
   absent = absent_before l s stands.rows k len birth can
 
   abbrev t : Space
@@ -263,6 +263,7 @@ module _ {R W E M : Type 0} (kit : Kit R W E M) (by : Stepping R W E M) (laws : 
         beside = beside;
         leaves = leaves;
         search = search_append kit.kind c (side_of kit storing) s k len birth Even call stands.announcement.zero;
+        fields = fields_append None s k len birth Even call;
         history = ap (λ (x : Call). x ∷ s.history) (sym change_is);
         number = refl;
         looks = looks_not None s.history p.seen stands.own.side.past;

@@ -101,7 +101,7 @@ module _ {R W E M : Type 0} (kit : Kit R W E M) (by : Stepping R W E M) (laws : 
       (λ a f live inside at. ap (seal_in (sealed_of others)) at ∙ (are_sealed kit l w.collector w.space w.notices (party.Pass p ∷ others) (let are = w.parties in are.collector) w.each).seals a f live inside))
 
   pub own_keeps : pass_asks kit by p.pass.machine ≢ Ended → LawfulRecords kit l (applied (party_asks kit by (party.Pass p)) words) (turned kit by others (party.Pass p) (slice_index words (place_of (party_asks kit by (party.Pass p)))) ∷ others)
-  own_keeps on = pass_keeps kit by l words p others w laws.minds (turn_of kit by laws cycle l (announced_by w.collector) (cycle_of w.collector) w.space w.notices words p stands on) (turned_is on)
+  own_keeps on = pass_keeps kit by l words p others w laws announcement on (turn_of kit by laws cycle l (announced_by w.collector) (cycle_of w.collector) w.space w.notices words p stands on) (turned_is on)
 
   pub own_kept : pass_asks kit by p.pass.machine ≢ Ended → (k next : Known) → known_of kit p.pass.machine ≡ Some k → known_of kit (pass_fed kit by p.pass.machine (slice_index words (place_of (pass_asks kit by p.pass.machine)))) ≡ Some next → CallKept k next
   own_kept on = kept_of kit by laws cycle l (announced_by w.collector) (cycle_of w.collector) w.space w.notices words p stands on

@@ -276,7 +276,7 @@ module _ {R W E M : Type 0} (kit : Kit R W E M) (by : Stepping R W E M) (cycle :
       load_turn kit by l a c s n (in_machine p (machine.Poll (poll.Mark q word))) words stands on (poll_inside (poll.Mark q word) stands) refl (looks_not None s.history p.seen stands.own.side.past) went.0 refl went.1
   poll_turn (poll.Follow q word register birth at) stands on =
       let followed : Poll = polls.followed q register birth (place_by (header_at (slice_index words at)) at) in
-      let went = load_goes (poll.Follow q word register birth at) stands on (follow_runs followed word (register + 1) (polls.behind followed register))
+      let went = load_goes (poll.Follow q word register birth at) stands on (follow_runs followed word (register + 1) (polls.rest_after followed register))
       (link_found l (reading words) c s n birth at stands.rows stands.says stands.objects) in
       load_turn kit by l a c s n (in_machine p (machine.Poll (poll.Follow q word register birth at))) words stands on (poll_inside (poll.Follow q word register birth at) stands) refl (looks_not None s.history p.seen stands.own.side.past) went.0 refl went.1
   poll_turn (poll.Acknowledge q word mark) stands on = acknowledge_turn q word mark stands on

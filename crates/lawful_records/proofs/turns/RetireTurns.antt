@@ -22,7 +22,7 @@ use Rattle.handshakes.specs.Phases.{phase_of}
 use Rattle.handshakes.specs.Polling.{held_in}
 use Rattle.handshakes.specs.Retires as retires
 use Rattle.handshakes.specs.Retires.{filled_word, region_word_at, register_before, retired_view}
-use Rattle.handshakes.specs.Retiring.{Leaving, retire_step, stored_by}
+use Rattle.handshakes.specs.Retiring.{IsRetiring, Leaving, retire_step, stored_by}
 use Rattle.handshakes.specs.RetiringLaws.{retire_asks, retire_goes_on, region_word_is}
 use Rattle.barriers.specs.Spaces.{Space}
 use Rattle.barriers.specs.Says.{Notices, put_ack, put_root, put_region}
@@ -34,7 +34,8 @@ use Rattle.barriers.specs.Kits.{Kit, Stepping, own_of}
 use Rattle.barriers.proofs.words.NoticeStores.{says_ack, says_root}
 use Rattle.barriers.proofs.words.RegionStores.{says_region}
 use Rattle.barriers.proofs.words.Sets.{set_here, set_else, set2_cases}
-use Rattle.lawful_records.specs.LawfulRecords.{AreStored, IsRetireIn, IsPassRecord}
+use Rattle.barriers.specs.Values.{value_of}
+use Rattle.lawful_records.specs.LawfulRecords.{IsGood, AreStored, IsRetireIn, IsPassRecord}
 use Rattle.lawful_records.specs.Making.{IsRoom, IsRoomIn, lens_of}
 use Rattle.lawful_records.specs.Records.{number_of}
 use Rattle.lawful_records.specs.PassTurns.{PassStands, HasTurn, in_machine}
@@ -79,7 +80,7 @@ stored_more n pass registers reg stored i small = elim (set2_cases n.root pass r
   | inr apart ↦ apart.1 ∙ stored i (elim (cases_eq i reg) [ inl same ↦ absurd (apart.0 (refl, same)) | inr other ↦ omega (arith, small, other) ])
 ]
 
-leaving_next : (r : Retire) (behind : ℕ) (last : Bool) → IsLeaving (if last then retires.stored_all r r.region_at else retire.Root r (behind - 1))
+pub leaving_next : (r : Retire) (behind : ℕ) (last : Bool) → IsLeaving (if last then retires.stored_all r r.region_at else retire.Root r (behind - 1))
 leaving_next r behind true = by_region r.region_at
   where
     by_region : (at : Option ℕ) → IsLeaving (retires.stored_all r at)
@@ -148,17 +149,23 @@ module _ {R W E M : Type 0} (kit : Kit R W E M) (by : Stepping R W E M) (l : Siz
     after_leaves : IsLeaving after
     after_leaves = leaving_next r behind (behind == 0)
 
-    after_is : IsRetireIn l o pass p.pass.registers p.pass.room.region after
+    in_progress : (m : RetireMachine) → IsLeaving m → IsRetiring l leaving m × AreStored o pass p.pass.registers (stored_by m) → IsRetireIn l s o pass p.pass.registers p.pass.room.region m
+    in_progress retire.Ended leaves is = absurd leaves
+    in_progress (retire.Root q count) leaves is = is
+    in_progress (retire.Region q at) leaves is = is
+    in_progress (retire.Acknowledge q) leaves is = is
+
+    after_is : IsRetireIn l s o pass p.pass.registers p.pass.room.region after
     after_is =
         let is = stands.own.machine in
-        (retire_goes_on l leaving (retire.Root r behind) 0 is.0, subst (AreStored o pass p.pass.registers) (sym (stored_next r behind is.0.1 (behind == 0) refl)) (stored_more n pass p.pass.registers reg is.1))
+        in_progress after after_leaves (retire_goes_on l leaving (retire.Root r behind) 0 is.0, subst (AreStored o pass p.pass.registers) (sym (stored_next r behind is.0.1 (behind == 0) refl)) (stored_more n pass p.pass.registers reg is.1))
 
     after_number : number_of (goes_to kit p (machine.Retire after)) ≡ pass
     after_number = ap (λ (v : PassView). v.pass) (quiet_retire kit p after after_leaves).view
 
     after_own : IsPassRecord kit l a c s o (goes_to kit p (machine.Retire after))
     after_own = record_rests kit l a c s o p (machine.Retire after) (quiet_retire kit p after after_leaves) (rests_root kit l a c s n p pass reg word rests) (λ has. room)
-        (subst (λ (own : ℕ). IsRetireIn l o own p.pass.registers p.pass.room.region after) (sym after_number) after_is)
+        (subst (λ (own : ℕ). IsRetireIn l s o own p.pass.registers p.pass.room.region after) (sym after_number) after_is)
 
     inside : IsInside (words_of l) (retires.asks_of (retire.Root r behind))
     inside = retire_inside (retire.Root r behind) stands
@@ -243,7 +250,7 @@ module _ {R W E M : Type 0} (kit : Kit R W E M) (by : Stepping R W E M) (l : Siz
       room = λ has. absurd (cc has);
       few = before.few;
       unborn = before.unborn;
-      machine = (tt, stands.own.machine.1);
+      machine = λ i less. record { value = ap value_of (stands.own.machine.1 i less); good = subst (IsGood s) (sym (stands.own.machine.1 i less)) (before.holds.good i) };
       told = told_quiet kit s.history (in_machine p machine.Idle) retired
           (record { number = refl; mine = refl; count = refl; later = omega arith; past = before.holds.side.past }) refl before.told;
       call = tt;

@@ -96,6 +96,7 @@ module _ {R W E M : Type 0} (kit : Kit R W E M) (by : Stepping R W E M) (l : Siz
         };
         leaves = leaves_same kit.protocol l c s;
         search = search_same kit.kind c (side_of kit p) s;
+        fields = λ at f home less. inl (home, less, refl);
         history = ap (λ change. with_change change s.history) (sym quiet);
         number = number;
         looks = looks;
@@ -131,6 +132,7 @@ module _ {R W E M : Type 0} (kit : Kit R W E M) (by : Stepping R W E M) (l : Siz
         };
         leaves = leaves_region kit.protocol c s k x l (omega (arith, owned.0));
         search = search_region kit.kind c (side_of kit p) s k x;
+        fields = λ at f home less. inl (home, less, refl);
         history = ap (λ change. with_change change s.history) (sym quiet);
         number = number;
         looks = looks;

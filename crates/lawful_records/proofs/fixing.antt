@@ -1,0 +1,23 @@
+-- What is fixed, under each turn.
+pub mod Answered
+pub mod Calm
+pub mod BeginFixes
+pub mod CallFixes
+pub mod Frames
+pub mod Links
+pub mod Looks
+pub mod MoveAside
+pub mod Objects
+pub mod OwnFixes
+pub mod PassFixes
+pub mod RootTurns
+pub mod StandsFixed
+pub mod Turns
+pub mod WalkFields
+pub mod WalkHeaders
+pub mod WalkLoads
+pub mod WalkPuts
+pub mod WalkRows
+pub mod WalkTurns
+pub mod WalkWords
+pub mod Walking
