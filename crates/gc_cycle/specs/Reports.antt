@@ -24,6 +24,8 @@ ended_cycles (collector.Source s region next) = s.cycle - 1
 ended_cycles (collector.Target s region next) = s.cycle - 1
 ended_cycles (collector.Tag s job next) = s.cycle - 1
 ended_cycles (collector.Move s job next m) = s.cycle - 1
+ended_cycles (collector.Roots s pass reg m) = s.cycle - 1
+ended_cycles (collector.Walk s m) = s.cycle - 1
 ended_cycles (collector.Done s) = s.cycle
 
 -- how the jobs of this cycle have ended: until cycles are planned anew the first one alone has some

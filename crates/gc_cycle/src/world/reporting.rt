@@ -24,7 +24,9 @@ fn ended_cycles<M>(collector: &CollectorMachine<M>) -> u32
         | CollectorMachine::Source { stage, .. }
         | CollectorMachine::Target { stage, .. }
         | CollectorMachine::Tag { stage, .. }
-        | CollectorMachine::Move { stage, .. } => stage,
+        | CollectorMachine::Move { stage, .. }
+        | CollectorMachine::Roots { stage, .. }
+        | CollectorMachine::Walk { stage, .. } => stage,
     };
     stage.cycle.saturating_sub(1)
 }
