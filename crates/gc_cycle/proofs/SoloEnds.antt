@@ -17,6 +17,7 @@ use Rattle.barriers.specs.declared.machine_end.Request.TheVariants as requests
 use Rattle.barriers.specs.declared.pass.PassRecord.{PassRecord}
 use Rattle.barriers.specs.Kits.{Kit, Stepping, Laws}
 use Rattle.barriers.specs.Records.{started}
+use Rattle.reference_fix.proofs.FixWalks as walks
 use Rattle.lawful_records.specs.declared.stage.TheConstants.{SEARCHES}
 use Rattle.gc_cycle.specs.declared.schedule.Schedule.TheVariants.{Solo}
 use Rattle.gc_cycle.specs.Worlds.{State, nobody, fresh_pass, opening_passes, opening_state, or_else}
@@ -24,7 +25,7 @@ use Rattle.gc_cycle.specs.Lawful.{Lawful}
 use Rattle.gc_cycle.specs.Runs.{is_over, run_of, enough_steps}
 use Rattle.gc_cycle.proofs.solo.Alone.{IsOutside, IsSolo, all_to_do, turns_end}
 use Rattle.gc_cycle.proofs.solo.CollectorEnds.{left_of_collector, left_at_start}
-use Rattle.gc_cycle.proofs.solo.CycleSteps.{job_steps, seek_steps}
+use Rattle.gc_cycle.proofs.solo.CycleSteps.{job_steps, seek_steps, roots_steps, fix_steps}
 use Rattle.gc_cycle.proofs.solo.Left.{left, command_steps}
 use Rattle.gc_cycle.proofs.solo.SearchEnds.{region_steps}
 use Rattle.gc_cycle.proofs.solo.PlaysAlone.{PlaysAlone}
@@ -37,30 +38,34 @@ use Rattle.lawful_records.specs.Jobs.{first_plan}
 within_lines : (lines quota : ℕ) → command_steps quota * lines ≤ lines * (64 + quota)
 within_lines lines quota = omega (arith, mul-add lines 64 quota, add-mul 18 quota lines, mul_comm quota lines)
 
--- a cycle at most: five announcements, its job, and eight searches
-abbrev cycle_steps : ℕ → ℕ → ℕ
-cycle_steps passes seek = 5 * (1 + passes) + job_steps + SEARCHES * (1 + (1 + passes) + seek)
+-- a cycle at most: five announcements, its job, eight searches, and its fixing
+abbrev cycle_steps : ℕ → ℕ → ℕ → ℕ
+cycle_steps passes seek fix = 5 * (1 + passes) + job_steps + SEARCHES * (1 + (1 + passes) + seek) + fix
 
 -- 64 for each word of the table are more
-each_within : (passes regions words : ℕ) → 1 ≤ passes → 3 + 9 * passes + 65 * regions ≤ words → cycle_steps passes (region_steps * regions) ≤ 64 * words
+each_within : (passes regions words : ℕ) → 1 ≤ passes → 3 + 9 * passes + 65 * regions ≤ words → cycle_steps passes (region_steps * regions) (roots_steps * passes + walks.region_steps * regions) ≤ 64 * words
 each_within passes regions words some many = omega (arith, some, many)
 
-cycles_by : (cycles passes seek : ℕ) → 5 * cycles * (1 + passes) + (job_steps * cycles + SEARCHES * cycles * (1 + (1 + passes) + seek)) ≡ cycles * cycle_steps passes seek
-cycles_by cycles passes seek =
-    let search : ℕ = 1 + (1 + passes) + seek in
-    omega (arith, mul-add cycles (5 * (1 + passes) + job_steps) (SEARCHES * search), mul-add cycles (5 * (1 + passes)) job_steps, mul_assoc 5 cycles (1 + passes), mul_left_comm cycles 5 (1 + passes), mul_assoc SEARCHES cycles search, mul_left_comm cycles SEARCHES search)
+-- those of so many cycles
+abbrev all_cycles : ℕ → ℕ → ℕ → ℕ → ℕ
+all_cycles cycles passes seek fix = 5 * cycles * (1 + passes) + (job_steps * cycles + SEARCHES * cycles * (1 + (1 + passes) + seek) + cycles * fix)
 
-within_cycles : (cycles passes seek words : ℕ) → cycle_steps passes seek ≤ 64 * words → 5 * cycles * (1 + passes) + (job_steps * cycles + SEARCHES * cycles * (1 + (1 + passes) + seek)) ≤ (cycles + 1) * 64 * words
-within_cycles cycles passes seek words few =
-    let each : cycles * cycle_steps passes seek ≤ cycles * (64 * words) = mul-le-mul_left cycles few in
-    omega (arith, each, cycles_by cycles passes seek, mul_assoc (cycles + 1) 64 words, add-mul cycles 1 (64 * words))
+cycles_by : (cycles passes seek fix : ℕ) → all_cycles cycles passes seek fix ≡ cycles * cycle_steps passes seek fix
+cycles_by cycles passes seek fix =
+    let search : ℕ = 1 + (1 + passes) + seek in
+    omega (arith, mul-add cycles (5 * (1 + passes) + job_steps + SEARCHES * search) fix, mul-add cycles (5 * (1 + passes) + job_steps) (SEARCHES * search), mul-add cycles (5 * (1 + passes)) job_steps, mul_assoc 5 cycles (1 + passes), mul_left_comm cycles 5 (1 + passes), mul_assoc SEARCHES cycles search, mul_left_comm cycles SEARCHES search)
+
+within_cycles : (cycles passes seek fix words : ℕ) → cycle_steps passes seek fix ≤ 64 * words → all_cycles cycles passes seek fix ≤ (cycles + 1) * 64 * words
+within_cycles cycles passes seek fix words few =
+    let each : cycles * cycle_steps passes seek fix ≤ cycles * (64 * words) = mul-le-mul_left cycles few in
+    omega (arith, each, cycles_by cycles passes seek fix, mul_assoc (cycles + 1) 64 words, add-mul cycles 1 (64 * words))
 
 -- threads and the collector together
-all_within : (threads collector lines quota passes cycles seek words : ℕ) → threads ≤ command_steps quota * lines + 10 * passes → collector ≤ 5 * cycles * (1 + passes) + (job_steps * cycles + SEARCHES * cycles * (1 + (1 + passes) + seek)) → cycle_steps passes seek ≤ 64 * words
+all_within : (threads collector lines quota passes cycles seek fix words : ℕ) → threads ≤ command_steps quota * lines + 10 * passes → collector ≤ all_cycles cycles passes seek fix → cycle_steps passes seek fix ≤ 64 * words
     → threads + collector ≤ lines * (64 + quota) + passes * 64 + (cycles + 1) * 64 * words
-all_within threads collector lines quota passes cycles seek words few less each = omega (arith, few, less, within_lines lines quota, within_cycles cycles passes seek words each)
+all_within threads collector lines quota passes cycles seek fix words few less each = omega (arith, few, less, within_lines lines quota, within_cycles cycles passes seek fix words each)
 
-many_words : (l : Sizes) → IsLayout l → cycle_steps l.passes (seek_steps l) ≤ 64 * words_of l
+many_words : (l : Sizes) → IsLayout l → cycle_steps l.passes (seek_steps l) (fix_steps l) ≤ 64 * words_of l
 many_words l fits = each_within l.passes (regions_of l) (words_of l) fits.passes.0 (omega arith)
 
 -- ---- the start
@@ -132,7 +137,7 @@ module _ {R W E M : Type 0} (kit : Kit R W E M) (by : Stepping R W E M) (alone :
 
     all_at_start : all_to_do kit by alone start ≤ enough_steps s
     all_at_start =
-        all_within (sum_by (to_do kit by start) (range_with_len 1 s.layout.passes)) (left_of_collector kit by alone (first_plan kit.kind s.layout) (let w = start in w.collector)) (length s.lines) s.layout.quota s.layout.passes s.cycles (seek_steps s.layout) (words_of s.layout)
+        all_within (sum_by (to_do kit by start) (range_with_len 1 s.layout.passes)) (left_of_collector kit by alone (first_plan kit.kind s.layout) (let w = start in w.collector)) (length s.lines) s.layout.quota s.layout.passes s.cycles (seek_steps s.layout) (fix_steps s.layout) (words_of s.layout)
         threads_at_start (left_at_start kit by alone (first_plan kit.kind s.layout) s.layout s.cycles salt) (many_words s.layout (let script = lw.script in script.layout))
 
   -- So many steps are enough.

@@ -3,6 +3,7 @@ pub mod AloneAtRest
 pub mod AloneChicken
 pub mod AloneClover
 pub mod AloneStopless
+pub mod AtStart
 pub mod CollectorEnds
 pub mod CycleSteps
 pub mod Finding
@@ -11,5 +12,6 @@ pub mod MovesClover
 pub mod MovesStopless
 pub mod PlaysAlone
 pub mod SearchEnds
+pub mod SmallPlans
 pub mod Standing
 pub mod Turns

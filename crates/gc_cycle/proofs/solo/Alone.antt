@@ -33,7 +33,8 @@ use Rattle.gc_cycle.proofs.Acknowledging.{collector_record, acknowledged}
 use Rattle.gc_cycle.proofs.Running.{ready_is_party}
 use Rattle.gc_cycle.proofs.Playing.{is_ended-true, is_ended-false}
 use Rattle.gc_cycle.proofs.AllowedAnswers.{ready_if, ready_is, thread_steps, some_are}
-use Rattle.gc_cycle.proofs.solo.CollectorEnds.{left_of_collector, MovesAlone, Falls, collector_falls, alone_at_start, IsSmall, first_small}
+use Rattle.gc_cycle.proofs.solo.CollectorEnds.{left_of_collector, MovesAlone, Falls, collector_falls, alone_at_start}
+use Rattle.gc_cycle.proofs.solo.SmallPlans.{IsSmall, first_small}
 use Rattle.gc_cycle.proofs.solo.Finding.{collector_finds}
 use Rattle.gc_cycle.proofs.solo.Left.{left, StandsAlone, asks}
 use Rattle.gc_cycle.proofs.solo.PlaysAlone.{PlaysAlone}

@@ -1,24 +1,28 @@
 -- Where all threads have ended, the collector ends with an announcement and a look at each pass for each of the five announcements of each
--- cycle that is left, and with the steps of the job and of the searches of each.
-use Rattle.std.proofs.Common.{◌≡◌, ◌≢◌, ℕ, ◌+◌, ◌-◌, ◌*◌, ◌<◌, ◌≤◌, ◌==◌, Bool, true, false, List, Option, Some, None, refl, sym, ap, subst, arith, length, get_or, [], ◌∷◌, ◌∙◌}
+-- cycle that is left, and with the steps of the job, of the searches and of the fixing of each.
+use Rattle.std.proofs.Common.{◌≡◌, ◌≢◌, ℕ, ◌+◌, ◌-◌, ◌*◌, ◌<◌, ◌≤◌, ◌==◌, Bool, true, false, List, Option, Some, None, refl, sym, ap, subst, arith, lit<, length, get_or, ◌∙◌}
 use Rattle.std.specs.Prelude.{nat_lt, if◌then◌else◌, drop}
 use Rattle.std.proofs.Math.Nat.{mul-le-mul_right}
 use Rattle.std.proofs.lemmas.Bool.Decides.{nat_tests}
 use Rattle.std.proofs.lemmas.Bool.{eq-eqb}
-use Rattle.heap_words.specs.Layouts.{Sizes, IsLayout, IsPass, ack_at, first_word}
+use Rattle.heap_words.specs.Layouts.{Sizes, IsLayout, IsPass, ack_at}
+use Rattle.heap_words.specs.declared.limits.TheConstants.{REGISTERS}
 use Rattle.call_steps.specs.Steps.{applied, found_by}
 use Rattle.call_steps.specs.StepLaws.{reading}
 use Rattle.handshakes.specs.declared.answer.AwaitEnd.TheVariants.{Answered, Retired, NotYet}
 use Rattle.handshakes.specs.declared.answer.AwaitMachine.{AwaitMachine}
 use Rattle.handshakes.specs.declared.answer.AwaitMachine.TheVariants as await
 use Rattle.handshakes.specs.PhaseWords.{retired_word}
-use Rattle.object_headers.specs.declared.change.Kind.{Kind}
-use Rattle.object_headers.specs.declared.change.Kind.TheVariants as kinds
 use Rattle.object_headers.specs.Changes.{is_clover}
 use Rattle.mark_search.specs.declared.seek.SeekEnd.{SeekEnd}
 use Rattle.mark_search.specs.declared.seek.SeekEnd.TheVariants.{Clear, MarkFound}
 use Rattle.mark_search.specs.declared.seek.SeekMarkMachine.{SeekMarkMachine}
 use Rattle.mark_search.specs.Seeks as seeking
+use Rattle.reference_fix.specs.declared.fix_walk.FixWalkMachine.{FixWalkMachine}
+use Rattle.reference_fix.specs.declared.root_fix.RootFixMachine.{RootFixMachine}
+use Rattle.reference_fix.specs.FixWalks as walks
+use Rattle.reference_fix.specs.RootFixes as roots
+use Rattle.reference_fix.proofs.FixWalks as walking
 use Rattle.space_reclaim.specs.declared.move_job.MoveJob.{MoveJob}
 use Rattle.barriers.specs.declared.ends.MoveEnd.{MoveEnd}
 use Rattle.barriers.specs.Kits.{Kit, Stepping}
@@ -27,53 +31,21 @@ use Rattle.lawful_records.specs.declared.stage.Announcement.TheVariants.{Mark, C
 use Rattle.lawful_records.specs.declared.stage.Stage.{Stage}
 use Rattle.lawful_records.specs.declared.collector.CollectorMachine.{CollectorMachine}
 use Rattle.lawful_records.specs.declared.collector.CollectorMachine.TheVariants as collector
-use Rattle.lawful_records.specs.Collectors.{word_of, mark_word, is_planned, target_of, asks_of, fed_of, look, looked, awaited, announce, searched, seek_at, sought, tag_at, move_at, target_at, source_at, work_at, moves_at, behind_by, moved_by, stage_at_start, collector_of, passed_of}
-use Rattle.lawful_records.specs.Handshakes.{IsCollector, IsAwait, IsSeek}
+use Rattle.lawful_records.specs.Collectors.{word_of, mark_word, is_planned, target_of, asks_of, fed_of, look, looked, awaited, retired_by, root_fix, rooted, walked, announce, searched, seek_at, sought, tag_at, move_at, target_at, source_at, work_at, moves_at, behind_by, moved_by, stage_at_start, collector_of}
+use Rattle.lawful_records.specs.Handshakes.{IsCollector, IsAwait, IsSeek, IsRooting, IsWalk}
 use Rattle.lawful_records.specs.declared.stage.TheConstants.{SEARCHES}
-use Rattle.lawful_records.specs.declared.job.TheConstants.{EMPTIED, FILLED}
-use Rattle.lawful_records.specs.Cycling.{announced_by}
-use Rattle.lawful_records.specs.Jobs.{wide_for, has_job, first_job, first_plan}
-use Rattle.lawful_records.proofs.collecting.FirstJobs.{is_job}
 use Rattle.lawful_records.proofs.collecting.PlanLists.{at_is, all_in, drop_some}
 use Rattle.call_steps.specs.declared.step.Step.TheVariants.{Ended}
-use Rattle.gc_cycle.proofs.solo.CycleSteps.{after_in, work_steps, job_steps, cycles_after, steps_each, search_steps, said_after, rest_after, searches_after, onward_left, left_after, says_next, says_after, at_most, none_of, fewer_searches, searches_next}
+use Rattle.gc_cycle.proofs.solo.CycleSteps.{after_in, work_steps, job_steps, root_steps, cycles_after, steps_each, search_steps, fix_steps, roots_from, said_after, rest_after, searches_after, fixings_after, onward_left, left_after, says_next, says_after, at_most, none_of, fewer_searches, searches_next, roots_fewer, fixing_next}
 use Rattle.gc_cycle.proofs.solo.Finding.{CollectorFinds}
 use Rattle.gc_cycle.proofs.solo.SearchEnds.{seek_left, seek_falls}
 use Rattle.gc_cycle.proofs.solo.PlaysAlone.{most_move_steps, HasPlace, PlaysAlone}
-use Rattle.std.specs.List.{All, slice_get, prefix_len}
+use Rattle.gc_cycle.proofs.solo.SmallPlans.{IsSmall}
+use Rattle.std.specs.List.{slice_get, prefix_len}
 use Rattle.space_reclaim.specs.Plans.{Planned}
 use Rattle.std.proofs.lemmas.List.{length-drop}
-use Rattle.std.proofs.lemmas.List.Elements.{All-nil, All-cons}
 use Rattle.std.proofs.lemmas.List.Sums.{prefix_len-drop_yes}
 use Rattle.std.proofs.lemmas.Option.{slice_get_within}
-
--- ---- jobs
-
--- the job of the first cycle is one whose copy has a place of its own
-apart_from_wide : (kind : Kind) (l : Sizes) → IsLayout l → first_word l FILLED ≢ wide_for kind l
-apart_from_wide kinds.Stopless l fits same = let own : 1 * l.quota ≤ l.passes * l.quota = mul-le-mul_right l.quota fits.passes.0 in omega (arith, same, own, fits.quota.0, fits.pool.0)
-apart_from_wide kinds.Chicken l fits same = omega (arith, same)
-apart_from_wide kinds.AtRest l fits same = omega (arith, same)
-apart_from_wide kinds.Clover l fits same = omega (arith, same)
-
-first_has_place : (kind : Kind) (l : Sizes) → IsLayout l → HasPlace (first_job kind l)
-first_has_place kind l fits = record { job = is_job l fits kind; from = λ same. omega (arith, same); wide = apart_from_wide kind l fits }
-
--- a plan whose work takes so many steps at most before an announcement
-pub record IsSmall (plan : Planned) : Type 0 where
-  pub steps : length plan.chosen + (length plan.jobs + length plan.jobs * (1 + most_move_steps)) ≤ work_steps
-  pub places : All HasPlace plan.jobs
-
-pub first_small : (kind : Kind) (l : Sizes) → IsLayout l → IsSmall (first_plan kind l)
-first_small kind l fits = record { steps = steps_by (has_job kind l); places = places_by (has_job kind l) }
-  where
-    steps_by : (has : Bool) → length (if has then EMPTIED ∷ [] else []) + (length (if has then first_job kind l ∷ [] else []) + length (if has then first_job kind l ∷ [] else []) * (1 + most_move_steps)) ≤ work_steps
-    steps_by true = omega arith
-    steps_by false = omega arith
-
-    places_by : (has : Bool) → All HasPlace (if has then first_job kind l ∷ [] else [])
-    places_by true = All-cons HasPlace (first_job kind l) [] (first_has_place kind l fits) (All-nil HasPlace)
-    places_by false = All-nil HasPlace
 
 module _ {R W E M : Type 0} (kit : Kit R W E M) (by : Stepping R W E M) (alone : PlaysAlone kit by) where
   -- what is known of memory and of its mover
@@ -82,20 +54,26 @@ module _ {R W E M : Type 0} (kit : Kit R W E M) (by : Stepping R W E M) (alone :
   MovesAlone memory k = Unit {0}
 
 module _ {R W E M : Type 0} (kit : Kit R W E M) (by : Stepping R W E M) (alone : PlaysAlone kit by) (plan : Planned) where
+  -- from the look at a pass on
+  abbrev awaited_left : Stage → ℕ → ℕ
+  awaited_left s pass = steps_each s - pass + roots_from s.announcement s.layout pass + left_after s.announcement s
+
   -- from an announcement on
   abbrev announced_left : Stage → ℕ
-  announced_left s = steps_each s + left_after s.announcement s
+  announced_left s = steps_each s + roots_from s.announcement s.layout 1 + left_after s.announcement s
 
   -- until it has played its cycles
   abbrev pub left_of_collector : CollectorMachine M → ℕ
   left_of_collector (collector.Announce s) = announced_left s
-  left_of_collector (collector.Await s pass m) = steps_each s - pass + left_after s.announcement s
+  left_of_collector (collector.Await s pass m) = awaited_left s pass
   left_of_collector (collector.Draw s) = 1 + announced_left s
   left_of_collector (collector.Seek s m) = seek_left m + onward_left Search s
   left_of_collector (collector.Source s region next) = 1 + length (drop next plan.chosen) + (length plan.jobs + length plan.jobs * (1 + most_move_steps)) + announced_left s
   left_of_collector (collector.Target s region next) = 1 + length (drop next plan.jobs) + length plan.jobs * (1 + most_move_steps) + announced_left s
   left_of_collector (collector.Tag s job next) = 1 + length (drop next plan.jobs) + announced_left s
   left_of_collector (collector.Move s job next m) = alone.move_left m + length (drop next plan.jobs) * most_move_steps + announced_left s
+  left_of_collector (collector.Roots s pass reg m) = roots.left_of m + root_steps * (REGISTERS - (reg + 1)) + awaited_left s (pass + 1)
+  left_of_collector (collector.Walk s m) = walking.walk_left m + onward_left Fix s
   left_of_collector (collector.Done s) = 0
 
   -- it has fewer steps left than before
@@ -164,14 +142,18 @@ module _ {R W E M : Type 0} (kit : Kit R W E M) (by : Stepping R W E M) (alone :
       let next : Stage = record s { cycle = s.cycle + 1 } in
       let searches : SEARCHES + SEARCHES * cycles_after next ≡ 0 + SEARCHES * cycles_after s = omega (arith, some) in
       let same : searches_after Mark next ≡ searches_after Free s = ap (λ n. n * search_steps s.layout) searches in
-      says_next (after_in Free + 5 * cycles_after s) (after_in Mark + 5 * cycles_after next) (steps_each s) (rest_after Free s) (rest_after Mark next) (omega (arith, some)) (omega (arith, some, same))
+      let fixings : 1 + cycles_after next ≡ 0 + cycles_after s = omega (arith, some) in
+      let fixed : fixings_after Mark next ≡ fixings_after Free s = ap (λ n. n * fix_steps s.layout) fixings in
+      let said = says_next (after_in Free + 5 * cycles_after s) (after_in Mark + 5 * cycles_after next) (steps_each s) (rest_after Free s) (rest_after Mark next) (omega (arith, some)) (omega (arith, some, same, fixed)) in
+      omega (arith, said)
   left_after_free s false is = omega arith
 
   -- before Copy is said the object of a job is tagged
   says_copy : (s : Stage) → work_steps + announced_left (record s { announcement = Copy }) ≤ left_after Confirm s
   says_copy s =
       let fewer = fewer_searches 0 SEARCHES (cycles_after s) (search_steps s.layout) (omega arith) in
-      says_after (3 + 5 * cycles_after s) (2 + 5 * cycles_after s) (steps_each s) (rest_after Confirm s) (rest_after Copy s) work_steps (omega arith) (omega (arith, fewer))
+      let said = says_after (3 + 5 * cycles_after s) (2 + 5 * cycles_after s) (steps_each s) (rest_after Confirm s) (rest_after Copy s) work_steps (omega arith) (omega (arith, fewer)) in
+      omega (arith, said)
 
   left_to_copy : IsSmall plan → (s : Stage) (marked : Bool) → left_of_collector (if marked then collector.Draw (searched s 1) else work_at kit plan (record s { announcement = Copy })) ≤ left_after Confirm s
   left_to_copy small s true = omega (arith, searches_next SEARCHES (SEARCHES - 1) (cycles_after s) (search_steps s.layout) (omega arith))
@@ -182,18 +164,21 @@ module _ {R W E M : Type 0} (kit : Kit R W E M) (by : Stepping R W E M) (alone :
 
   -- before Fix is said it is moved
   says_fix : (s : Stage) → work_steps + announced_left (record s { announcement = Fix }) ≤ left_after Copy s
-  says_fix s = says_after (2 + 5 * cycles_after s) (1 + 5 * cycles_after s) (steps_each s) (rest_after Copy s) (rest_after Fix s) work_steps (omega arith) (omega arith)
+  says_fix s =
+      let fixing = fixing_next (cycles_after s) (fix_steps s.layout) in
+      let said = says_after (2 + 5 * cycles_after s) (1 + 5 * cycles_after s) (steps_each s) (rest_after Copy s) (fix_steps s.layout + rest_after Fix s) work_steps (omega arith) (omega (arith, fixing)) in
+      omega (arith, said)
 
   left_to_fix : IsSmall plan → (s : Stage) (marked : Bool) → left_of_collector (if marked then work_at kit plan (record s { announcement = Fix }) else moves_at kit plan (record s { announcement = Fix })) ≤ left_after Copy s
   left_to_fix small s true = let most = work_most small (λ a. 0) (record s { announcement = Fix }) in omega (arith, most.0, says_fix s)
   left_to_fix small s false = let most = moves_most small (λ a. 0) (record s { announcement = Fix }) in omega (arith, most.0, says_fix s)
 
   left_after_is : IsSmall plan → (a : Announcement) (s : Stage) → left_of_collector (behind_by kit plan a s) ≤ left_after a s
-  left_after_is small Mark s = says_next (4 + 5 * cycles_after s) (3 + 5 * cycles_after s) (steps_each s) (rest_after Mark s) (rest_after Confirm s) (omega arith) (omega arith)
+  left_after_is small Mark s = let said = says_next (4 + 5 * cycles_after s) (3 + 5 * cycles_after s) (steps_each s) (rest_after Mark s) (rest_after Confirm s) (omega arith) (omega arith) in omega (arith, said)
   left_after_is small Confirm s = left_to_copy small s (is_clover s.kind)
   left_after_is small Search s = left_to_seek s
   left_after_is small Copy s = left_to_fix small s (is_clover s.kind)
-  left_after_is small Fix s = says_next (1 + 5 * cycles_after s) (0 + 5 * cycles_after s) (steps_each s) (rest_after Fix s) (rest_after Free s) (omega arith) (omega arith)
+  left_after_is small Fix s = omega arith
   left_after_is small Free s = left_after_free s (nat_lt s.cycle s.cycles) refl
 
   -- ---- a mover that begins
@@ -221,21 +206,69 @@ module _ {R W E M : Type 0} (kit : Kit R W E M) (by : Stepping R W E M) (alone :
 
   -- ---- a look
 
+  -- the next pass is looked at, or all have answered
+  awaited_most : IsSmall plan → (memory : ℕ → ℕ) (s : Stage) (pass : ℕ) (more : Bool) → AtMost (awaited_left s (pass + 1)) memory (if more then look s (pass + 1) else behind_by kit plan s.announcement s)
+  awaited_most small memory s pass true = (omega arith, tt)
+  awaited_most small memory s pass false = (omega (arith, left_after_is small s.announcement s), behind_alone memory small s.announcement s)
+
+  awaited_falls : IsSmall plan → (memory : ℕ → ℕ) (s : Stage) (pass : ℕ) → pass < steps_each s → FallsTo (awaited_left s pass) memory (awaited kit plan s pass)
+  awaited_falls small memory s pass within =
+      let most = awaited_most small memory s pass (nat_lt pass s.layout.passes) in
+      (omega (arith, most.0, within, roots_fewer s.announcement s.layout pass), most.1)
+
+  -- the root words for the registers from this one on are fixed
+  root_most : (memory : ℕ → ℕ) (s : Stage) (pass reg : ℕ) → reg < REGISTERS → AtMost (root_steps * (REGISTERS - reg) + awaited_left s (pass + 1)) memory (root_fix s pass reg)
+  root_most memory s pass reg inside = (omega (arith, inside), tt)
+
+  -- in the await of Fix
+  roots_fall : (memory : ℕ → ℕ) (s : Stage) (pass : ℕ) → s.announcement ≡ Fix → pass < steps_each s → FallsTo (awaited_left s pass) memory (root_fix s pass 0)
+  roots_fall memory s pass is within =
+      let most = root_most memory s pass 0 (lit< tt) in
+      let here = ap (λ (a : Announcement). roots_from a s.layout pass) is in
+      let later = ap (λ (a : Announcement). roots_from a s.layout (pass + 1)) is in
+      (omega (arith, most.0, within, here, later), most.1)
+
+  retired_falls : IsSmall plan → (memory : ℕ → ℕ) (s : Stage) (pass : ℕ) (a : Announcement) → s.announcement ≡ a → pass < steps_each s → FallsTo (awaited_left s pass) memory (retired_by kit plan a s pass)
+  retired_falls small memory s pass Mark is within = awaited_falls small memory s pass within
+  retired_falls small memory s pass Confirm is within = awaited_falls small memory s pass within
+  retired_falls small memory s pass Search is within = awaited_falls small memory s pass within
+  retired_falls small memory s pass Copy is within = awaited_falls small memory s pass within
+  retired_falls small memory s pass Fix is within = roots_fall memory s pass is within
+  retired_falls small memory s pass Free is within = awaited_falls small memory s pass within
+
   -- what has ended is awaited no longer
-  awaits_on : (s : Stage) (pass : ℕ) (m : AwaitMachine) (found : ℕ) (same ended : Bool) → ended ≡ true
-      → looked kit plan s pass m (Some (if same then Answered else (if ended then Retired else NotYet pass found))) ≡ awaited kit plan s pass
-  awaits_on s pass m found true ended is = refl
-  awaits_on s pass m found false true is = refl
-  awaits_on s pass m found false false is = absurd cc
+  awaits_on : IsSmall plan → (memory : ℕ → ℕ) (s : Stage) (pass : ℕ) (m : AwaitMachine) (found : ℕ) (same ended : Bool) → ended ≡ true → pass < steps_each s
+      → FallsTo (awaited_left s pass) memory (looked kit plan s pass m (Some (if same then Answered else (if ended then Retired else NotYet pass found))))
+  awaits_on small memory s pass m found true ended is within = awaited_falls small memory s pass within
+  awaits_on small memory s pass m found false true is within = retired_falls small memory s pass s.announcement refl within
+  awaits_on small memory s pass m found false false is within = absurd cc
 
-  look_ends : (s : Stage) (pass found : ℕ) → found ≡ retired_word → fed_of kit by.move_fed plan (look s pass) found ≡ awaited kit plan s pass
-  look_ends s pass found is =
-      awaits_on s pass (await.Acknowledgement (ack_at pass) pass (word_of s)) found (found == word_of s) (found == retired_word) (eq-eqb found retired_word is)
+  -- a step of the fixing of a root word
+  rooted_on : IsSmall plan → (memory : ℕ → ℕ) (s : Stage) (pass reg before : ℕ) (more : Bool) → nat_lt reg (REGISTERS - 1) ≡ more → 0 < before
+      → FallsTo (before + root_steps * (REGISTERS - (reg + 1)) + awaited_left s (pass + 1)) memory (if more then root_fix s pass (reg + 1) else awaited kit plan s pass)
+  rooted_on small memory s pass reg before true is some =
+      let inside : reg < REGISTERS - 1 = grind (arith, nat_tests) in
+      let most = root_most memory s pass (reg + 1) (omega (arith, inside)) in
+      (omega (arith, most.0, some), most.1)
+  rooted_on small memory s pass reg before false is some =
+      let most = awaited_most small memory s pass (nat_lt pass s.layout.passes) in
+      (omega (arith, most.0, some), most.1)
 
-  awaited_falls : IsSmall plan → (memory : ℕ → ℕ) (s : Stage) (pass : ℕ) (more : Bool) → pass < steps_each s → nat_lt pass s.layout.passes ≡ more
-      → FallsTo (steps_each s - pass + left_after s.announcement s) memory (if more then look s (pass + 1) else behind_by kit plan s.announcement s)
-  awaited_falls small memory s pass true within is = (omega (arith, within), tt)
-  awaited_falls small memory s pass false within is = (omega (arith, within, left_after_is small s.announcement s), behind_alone memory small s.announcement s)
+  rooted_falls : IsSmall plan → (memory : ℕ → ℕ) (s : Stage) (pass reg : ℕ) (m : RootFixMachine) (before : ℕ) (end : Option (Unit {0})) → roots.left_of m < before
+      → FallsTo (before + root_steps * (REGISTERS - (reg + 1)) + awaited_left s (pass + 1)) memory (rooted kit plan s pass reg m end)
+  rooted_falls small memory s pass reg m before None less = (omega (arith, less), tt)
+  rooted_falls small memory s pass reg m before (Some end) less = rooted_on small memory s pass reg before (nat_lt reg (REGISTERS - 1)) refl (omega (arith, less))
+
+  -- ---- the walk that fixes all fields
+
+  free_left : (s : Stage) → announced_left (record s { announcement = Free }) ≤ onward_left Fix s
+  free_left s =
+      let said = says_next (1 + 5 * cycles_after s) (0 + 5 * cycles_after s) (steps_each s) (rest_after Fix s) (rest_after Free s) (omega arith) (omega arith) in
+      omega (arith, said)
+
+  walked_falls : (memory : ℕ → ℕ) (s : Stage) (m : FixWalkMachine) (before : ℕ) (end : Option (Unit {0})) → walking.walk_left m < before → FallsTo (before + onward_left Fix s) memory (walked s m end)
+  walked_falls memory s m before None less = (omega (arith, less), tt)
+  walked_falls memory s m before (Some end) less = (omega (arith, less, free_left s), tt)
 
   -- ---- a move
 
@@ -255,14 +288,16 @@ module _ {R W E M : Type 0} (kit : Kit R W E M) (by : Stepping R W E M) (alone :
       (omega (arith, some, next), tt)
   found_falls memory s before false is some =
       let fewer = fewer_searches 0 (SEARCHES - s.marks.round) (cycles_after s) (search_steps s.layout) (omega arith) in
-      let said = says_next (3 + 5 * cycles_after s) (2 + 5 * cycles_after s) (steps_each s) (rest_after Search s) (rest_after Fix s) (omega arith) (omega (arith, fewer)) in
+      let fixing = fixing_next (cycles_after s) (fix_steps s.layout) in
+      let said = says_next (3 + 5 * cycles_after s) (2 + 5 * cycles_after s) (steps_each s) (rest_after Search s) (fix_steps s.layout + rest_after Fix s) (omega arith) (omega (arith, fewer, fixing)) in
       let less : said_after Fix s ≤ said_after Copy s = mul-le-mul_right (steps_each s) (omega arith) in
       (omega (arith, some, said, less), tt)
 
   clear_left : (s : Stage) → announced_left (record s { announcement = Copy; marks = record s.marks { clear = true } }) ≤ onward_left Search s
   clear_left s =
       let fewer = fewer_searches 0 (SEARCHES - s.marks.round) (cycles_after s) (search_steps s.layout) (omega arith) in
-      says_next (3 + 5 * cycles_after s) (2 + 5 * cycles_after s) (steps_each s) (rest_after Search s) (rest_after Copy s) (omega arith) (omega (arith, fewer))
+      let said = says_next (3 + 5 * cycles_after s) (2 + 5 * cycles_after s) (steps_each s) (rest_after Search s) (rest_after Copy s) (omega arith) (omega (arith, fewer)) in
+      omega (arith, said)
 
   sought_falls : (memory : ℕ → ℕ) (s : Stage) (m : SeekMarkMachine) (before : ℕ) (end : Option SeekEnd) → seek_left m < before → FallsTo (before + onward_left Search s) memory (sought s m end)
   sought_falls memory s m before None less = (omega (arith, less), tt)
@@ -286,8 +321,8 @@ module _ {R W E M : Type 0} (kit : Kit R W E M) (by : Stepping R W E M) (alone :
     look_falls : (s : Stage) (pass : ℕ) → s.layout ≡ l → IsPass l pass → Falls (look s pass)
     look_falls s pass layout there =
         let passes : s.layout.passes ≡ l.passes = ap (λ (x : Sizes). x.passes) layout in
-        let less = awaited_falls small (memory_after (look s pass)) s pass (nat_lt pass s.layout.passes) (omega (arith, there.1, passes)) refl in
-        subst (FallsTo (left_of_collector (look s pass)) (memory_after (look s pass))) (sym (look_ends s pass (reading words (ack_at pass)) (ended pass there))) less
+        let found : ℕ = reading words (ack_at pass) in
+        awaits_on small (memory_after (look s pass)) s pass (await.Acknowledgement (ack_at pass) pass (word_of s)) found (found == word_of s) (found == retired_word) (eq-eqb found retired_word (ended pass there)) (omega (arith, there.1, passes))
 
     -- a step of a collector that has not played its cycles
     pub collector_falls : (k : CollectorMachine M) → IsCollector l kit.kind cycles plan k → asks_of by.move_asks k ≢ Ended → CollectorFinds kit by words k → MovesAlone kit by alone (reading words) k → Falls k
@@ -309,38 +344,27 @@ module _ {R W E M : Type 0} (kit : Kit R W E M) (by : Stepping R W E M) (alone :
     collector_falls (collector.Move s job next m) is on finds stands =
         let fed : M = by.move_fed m (found_by (by.move_asks m) words) in
         moved_falls small (memory_after (collector.Move s job next m)) s job next fed (alone.move_left m) (kit.move_ended fed) (alone.moves_on words m on finds stands)
+    collector_falls (collector.Roots s pass reg m) is on finds stands =
+        let found : ℕ = found_by (roots.asks_of m) words in
+        rooted_falls small (memory_after (collector.Roots s pass reg m)) s pass reg (roots.fed_of m found) (roots.left_of m) (roots.end_of (roots.fed_of m found)) (roots.falls_of m found on)
+    collector_falls (collector.Walk s m) is on finds stands =
+        let walks_on : IsWalk l kit.kind cycles s m = is in
+        let found : ℕ = found_by (walks.asks_of m) words in
+        let step = walking.walk_steps (walks.area_of l) m found walks_on.walks walks_on.on in
+        walked_falls (memory_after (collector.Walk s m)) s (walks.fed_of m found) (walking.walk_left m) (walks.end_of (walks.fed_of m found)) step.falls
     collector_falls (collector.Done s) is on finds stands = absurd (on refl)
 
   -- ---- the start
 
-  -- five announcements, the job and eight searches of each cycle
-  pub left_at_start : (l : Sizes) (cycles salt : ℕ) → left_of_collector (collector_of kit plan l cycles salt) ≤ 5 * cycles * (1 + l.passes) + (job_steps * cycles + SEARCHES * cycles * search_steps l)
+  -- five announcements, the job, eight searches and the fixing of each cycle
+  pub left_at_start : (l : Sizes) (cycles salt : ℕ) → left_of_collector (collector_of kit plan l cycles salt) ≤ 5 * cycles * (1 + l.passes) + (job_steps * cycles + SEARCHES * cycles * search_steps l + cycles * fix_steps l)
   left_at_start l cycles salt =
       let s : Stage = stage_at_start kit.kind l cycles salt in
       let all : after_in Free + 5 * cycles_after s ≡ 5 * cycles = omega arith in
       let searches : 0 + SEARCHES * cycles_after s ≡ SEARCHES * cycles = omega arith in
-      omega (arith, left_after_free s (nat_lt 0 cycles) refl, ap (λ n. n * (1 + l.passes)) all, ap (λ n. n * search_steps l) searches)
+      let fixings : 0 + cycles_after s ≡ cycles = omega arith in
+      omega (arith, left_after_free s (nat_lt 0 cycles) refl, ap (λ n. n * (1 + l.passes)) all, ap (λ n. n * search_steps l) searches, ap (λ n. n * fix_steps l) fixings)
 
   -- no move has begun
   pub alone_at_start : (memory : ℕ → ℕ) (l : Sizes) (cycles salt : ℕ) → MovesAlone kit by alone memory (collector_of kit plan l cycles salt)
   alone_at_start memory l cycles salt = free_alone memory (stage_at_start kit.kind l cycles salt) (nat_lt 0 cycles)
-
--- nothing is awaited, and no mark goes with what was announced
-module _ (M : Type 0) (kind : Kind) (l : Sizes) (cycles salt : ℕ) where
-  abbrev first : Bool → CollectorMachine M
-  first more = if more then collector.Announce (record (stage_at_start kind l cycles salt) { cycle = 0 + 1; announcement = Mark }) else collector.Done (stage_at_start kind l cycles salt)
-
-  passed_from : (more : Bool) → passed_of (first more) ≡ l.passes
-  passed_from true = refl
-  passed_from false = refl
-
-  mark_from : (more : Bool) → (let a = announced_by (first more) in a.mark) ≡ 0
-  mark_from true = refl
-  mark_from false = refl
-
-module _ {R W E M : Type 0} (kit : Kit R W E M) (plan : Planned) (l : Sizes) (cycles salt : ℕ) where
-  pub passed_from_start : passed_of (collector_of kit plan l cycles salt) ≡ l.passes
-  passed_from_start = passed_from M kit.kind l cycles salt (nat_lt 0 cycles)
-
-  pub no_mark_at_start : (let a = announced_by (collector_of kit plan l cycles salt) in a.mark) ≡ 0
-  no_mark_at_start = mark_from M kit.kind l cycles salt (nat_lt 0 cycles)

@@ -37,7 +37,7 @@ use Rattle.lawful_records.proofs.turns.Stepping.{own_there}
 use Rattle.gc_cycle.specs.Worlds.{State, pass_at, asks_at}
 use Rattle.gc_cycle.specs.Lawful.{Lawful, known_in}
 use Rattle.gc_cycle.proofs.Acknowledging.{pass_record, collector_record, acknowledged, view_going}
-use Rattle.gc_cycle.proofs.solo.CollectorEnds.{passed_from_start, no_mark_at_start}
+use Rattle.gc_cycle.proofs.solo.AtStart.{passed_from_start, no_mark_at_start}
 use Rattle.gc_cycle.proofs.solo.Finding.{PassFinds, pass_finds}
 use Rattle.gc_cycle.proofs.solo.Left.{IsUnhindered, asks}
 use Rattle.gc_cycle.proofs.solo.Turns.{IsUnmarked, machine_at}
