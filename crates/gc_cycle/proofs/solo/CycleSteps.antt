@@ -1,5 +1,5 @@
 -- How many steps a collector takes at most after an announcement, where each look finds that its pass has ended.
-use Rattle.std.proofs.Common.{◌≡◌, ℕ, ◌+◌, ◌-◌, ◌*◌, ◌≤◌, sym, arith}
+use Rattle.std.proofs.Common.{◌≡◌, ℕ, ◌+◌, ◌-◌, ◌*◌, ◌≤◌, sym, ap, ◌∙◌, arith}
 use Rattle.std.proofs.Math.Nat.{add-mul, mul-le-mul_right}
 use Rattle.heap_words.specs.Layouts.{Sizes, regions_of}
 use Rattle.heap_words.specs.declared.limits.TheConstants.{REGISTERS}
@@ -157,7 +157,9 @@ roots_fewer Free l pass = omega arith
 
 -- where the fixing of this cycle is begun
 pub fixing_next : (later each : ℕ) → (1 + later) * each ≡ each + (0 + later) * each
-fixing_next later each = sym (one_more (1 + later) later each (omega arith))
+fixing_next later each =
+    let none : 0 + later ≡ later = omega arith in
+    sym (one_more (1 + later) later each (omega arith)) ∙ ap (λ n. each + n * each) (sym none)
 
 pub at_most : (extra most rest all : ℕ) → extra ≤ most → most + rest ≤ all → extra + rest ≤ all
 at_most extra most rest all few within = omega (arith, few, within)

@@ -129,11 +129,10 @@ where
     P::Exchange: Copy,
     P::Move: Copy,
 {
-    /// The world of a script at its start. All memory is taken here. The salt draws the marks of the cycles.
-    pub fn new(alloc: Global, script: &Script, salt: u64) -> Result<World<P>, OutOfMemory>
+    /// What a world is made of at its start.
+    fn at_start(alloc: Global, script: &Script, salt: u64) -> Result<World<P>, OutOfMemory>
         requires { Fits script.now }
-        ensures opening { IfOk result (λ w. w ≡ opening_state P.kit script.now salt) }
-        ensures lawful { IfOk result (λ w. Lawful P.kit w) }
+        ensures { IfOk result (λ w. w ≡ opening_state P.kit script.now salt) }
     {
         let layout = *layout_of(script);
         let words = opening_words(alloc, &layout)?;
@@ -155,5 +154,15 @@ where
             marks,
             told,
         })
+    }
+
+    /// The world of a script at its start. All memory is taken here. The salt draws the marks of the cycles.
+    pub fn new(alloc: Global, script: &Script, salt: u64) -> Result<World<P>, OutOfMemory>
+        requires { Fits script.now }
+        ensures opening { IfOk result (λ w. w ≡ opening_state P.kit script.now salt) }
+        ensures lawful { IfOk result (λ w. Lawful P.kit w) }
+    {
+        let world = World::at_start(alloc, script, salt)?;
+        Ok(world)
     }
 }
