@@ -26,9 +26,11 @@ module _ {R W E M : Type 0} (kit : Kit R W E M) (by : Stepping R W E M) (laws : 
     old = records.space;
     old_notices = records.notices;
     says_old = records.says;
+    rows_old = records.rows;
     new = records.space;
     new_notices = records.notices;
     says_new = records.says;
+    rows_new = records.rows;
     changes = λ a. inl refl;
   }
 

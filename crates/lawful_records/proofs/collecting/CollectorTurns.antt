@@ -304,8 +304,10 @@ module _ {R W E M : Type 0} (kit : Kit R W E M) (by : Stepping R W E M) (laws : 
       old = w.space;
       old_notices = w.notices;
       says_old = w.says;
+      rows_old = w.rows;
       new = goes.space;
       new_notices = goes.notices;
       says_new = goes.says;
+      rows_new = goes.rows;
       changes = goes.heads;
     }

@@ -54,8 +54,10 @@ module _ {R W E M : Type 0} (kit : Kit R W E M) where
       old = w.space;
       old_notices = w.notices;
       says_old = w.says;
+      rows_old = w.rows;
       new = has.space;
       new_notices = has.notices;
       says_new = has.turn.says;
+      rows_new = has.turn.rows;
       changes = λ a. headers_change kind tags w.space has.space has.turn.beside.seen.heads a l (has.turn.leaves.left a);
     }
